@@ -1,0 +1,5 @@
+pub mod Choice
+pub mod Patched
+pub mod Stored
+pub mod Bytes
+pub mod Tight

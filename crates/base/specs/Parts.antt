@@ -1,0 +1,12 @@
+-- A part of a list of cells, and a list with a part replaced.
+use Prim.Native.Nat.{ℕ, _+_}
+use mathlib.Core.List.{List, _++_}
+use lib.ListN.{length, take, drop}
+
+-- the k cells from a on
+abbrev pub part : List ℕ → ℕ → ℕ → List ℕ
+part m a k = take k (drop a m)
+
+-- m with the cells from a on replaced by new
+unfoldable pub patch : List ℕ → ℕ → List ℕ → List ℕ
+patch m a new = take a m ++ (new ++ drop (a + length new) m)

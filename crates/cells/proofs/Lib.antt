@@ -1,0 +1,4 @@
+pub mod Combined
+pub mod Lengths
+pub mod Laws
+pub mod Tight

@@ -1,0 +1,102 @@
+//! Applies recipes to a node, frame by frame, and compares with the plain reading.
+
+use crate::digest::Digest;
+use crate::frames::{self, FRAME, WRAPPED};
+use crate::memory::{Lent, BOOTFL, EEPROM_CELLS, FLASH_CELLS, GROUP, MODULE};
+use crate::node::{Mode, Node, Outcome, Pin};
+use crate::node_record;
+use crate::recipe::{plain_reading, translate};
+use crate::recipe_stream::{read, Trial};
+use std::io::{self, Write};
+
+/// The memories before the restart.
+fn memories(trial: &Trial) -> (Vec<u8>, Vec<u8>) {
+    let flash = vec![trial.flash; FLASH_CELLS];
+    let mut eeprom = vec![trial.eeprom; EEPROM_CELLS];
+    eeprom[BOOTFL] = 0xFF;
+    eeprom[MODULE] = trial.module;
+    eeprom[GROUP] = trial.group;
+    (flash, eeprom)
+}
+
+/// Takes an answer into the digest: number, count of replies, two replies of one width.
+fn take(digest: &mut Digest, outcome: &Outcome, width: usize) {
+    let mut bytes = vec![outcome.number, outcome.replies.len() as u8];
+    bytes.extend(outcome.replies.iter().flatten());
+    bytes.resize(2 + 2 * width, 0);
+    digest.add(&bytes);
+}
+
+/// Compares what the node did with the plain reading; gives what is wrong.
+fn compare(trial: &Trial, node: &Node, flash: &[u8], eeprom: &[u8]) -> Option<String> {
+    let (mut plain_flash, mut plain_eeprom) = memories(trial);
+    let ours = trial.recipe[1..3] == [trial.module, trial.group];
+    if ours {
+        plain_reading(&trial.recipe, &mut plain_flash, &mut plain_eeprom);
+    }
+    let mode = if ours { Mode::Waiting } else { Mode::Programming(None) };
+    let cell = |got: &[u8], plain: &[u8]| (0..got.len()).find(|&i| got[i] != plain[i]);
+    if let Some(at) = cell(flash, &plain_flash) {
+        Some(format!("FLASH cell 0x{at:06X} is {:02X}", flash[at]))
+    } else if let Some(at) = cell(eeprom, &plain_eeprom) {
+        Some(format!("EEPROM place {at} is {:02X}", eeprom[at]))
+    } else if node.mode != mode {
+        Some(format!("the node is {:?}", node.mode))
+    } else {
+        None
+    }
+}
+
+/// Applies one recipe; gives its line without the number in front, and what is wrong.
+fn apply(trial: &Trial) -> (String, Option<String>) {
+    let mut output = vec![0xEE; trial.output];
+    let count = match translate(&trial.recipe, &mut output) {
+        Err(refusal) => {
+            let untouched = output.iter().all(|&byte| byte == 0xEE);
+            let frames = Digest::of(&output);
+            let line = format!(
+                "number {} place {} frames {frames} answers 0 flash 0 eeprom 0 node 0",
+                refusal.number, refusal.place,
+            );
+            return (line, (!untouched).then(|| "a refusal touched the output".to_string()));
+        }
+        Ok(count) => count,
+    };
+    let (mut flash, mut eeprom) = memories(trial);
+    let mut lent = Lent { flash: &mut flash, eeprom: &mut eeprom };
+    let mut node = Node::fresh([0; 6]);
+    node.restart(&lent, Pin::CanAndUart, true);
+    let mut answers = Digest::default();
+    for frame in output[..FRAME * count].chunks_exact(FRAME) {
+        if trial.uart {
+            for byte in frames::wrapped(frame.try_into().expect("12 bytes")) {
+                take(&mut answers, &node.uart_byte(&mut lent, byte), WRAPPED);
+            }
+        } else {
+            take(&mut answers, &node.can_frame(&mut lent, frame), FRAME);
+        }
+    }
+    let line = format!(
+        "number 0 place {count} frames {} answers {} flash {} eeprom {} node {}",
+        Digest::of(&output),
+        answers.value(),
+        Digest::of(&flash),
+        Digest::of(&eeprom),
+        Digest::of(&node_record::write(&node)),
+    );
+    (line, compare(trial, &node, &flash, &eeprom))
+}
+
+/// Applies all recipes of a stream and prints a line for each; gives the first thing that
+/// differs from the plain reading.
+pub fn apply_recipes(stream: &[u8], out: &mut impl Write) -> io::Result<Option<String>> {
+    let mut first = None;
+    for (index, trial) in read(stream).iter().enumerate() {
+        let (line, wrong) = apply(trial);
+        writeln!(out, "recipe {} {line}", index + 1)?;
+        if first.is_none() {
+            first = wrong.map(|what| format!("recipe {}: {what}", index + 1));
+        }
+    }
+    Ok(first)
+}

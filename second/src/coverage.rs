@@ -1,0 +1,271 @@
+//! Counts which rows of the tables a session stream reaches.
+
+use crate::event::{records, Event};
+use crate::frames::{self, Frame};
+use crate::memory::{asked, Address, Command, BOOTFL};
+use crate::node::{Mode, Node, HELD};
+use crate::numbers::*;
+use crate::session::Session;
+use std::collections::HashMap;
+use std::io::{self, Write};
+
+/// The rims of the legal rows and blocks.
+const RIMS: [u32; 9] =
+    [0x000FF8, 0x001000, 0x00FFF8, 0x00FFC0, 0x00FFC8, 0x010000, 0xF00000, 0xF003F8, 0xF00400];
+
+/// Rows that both ports ought to reach: refusals told apart, then what is done.
+const PORT_ROWS: [&str; 38] = [
+    "3 error",
+    "3 waiting",
+    "4 upper flag",
+    "6 of the other mode",
+    "6 of no mode",
+    "7 group, D2 not 0x00",
+    "7 group, D3 another",
+    "7 node",
+    "7 programming",
+    "8 drops nothing",
+    "8 drops a staged command",
+    "9 after an untidy record",
+    "0x100",
+    "0x101 D3 0x00",
+    "0x101 own group",
+    "0x102",
+    "0x103 D3 0x00",
+    "0x103 own group",
+    "0x104",
+    "0x105 D3 0x00",
+    "0x105 own group",
+    "0x105 not started",
+    "0x106",
+    "0x106 to 0x1F1",
+    "0x10D D3 0x00",
+    "0x10D own group",
+    "0x10E",
+    "0x10F D3 0x00",
+    "0x10F own group",
+    "0x111",
+    "0x010",
+    "0x020",
+    "0x030",
+    "0x040 Read FLASH",
+    "0x040 Read EEPROM",
+    "0x040 Write FLASH",
+    "0x040 Write EEPROM",
+    "0x040 Erase FLASH",
+];
+
+/// Rows of one port, and of the calls without a port.
+const OTHER_ROWS: [&str; 33] = [
+    "CAN 4 length",
+    "CAN 0 with bytes held",
+    "UART 10 held",
+    "UART 10 skipped",
+    "UART 0 with 0xAA inside",
+    "restart 0 normal, started",
+    "restart 0 normal, not started",
+    "restart 0 programming",
+    "restart 0 error",
+    "restart 0 BOOTFL 0x00",
+    "restart 0 BOOTFL another",
+    "restart 0 own numbers 00 00",
+    "restart 0 own numbers FF FF",
+    "restart 1",
+    "identifier to frame 0",
+    "identifier to frame 4",
+    "frame to identifier 0",
+    "frame to identifier 4",
+    "wrap 0",
+    "wrap 4",
+    "unwrap 0",
+    "unwrap 4",
+    "unwrap 11",
+    "show 0 FLASH",
+    "show 0 EEPROM",
+    "show 1",
+    "show 8",
+    "rule Read FLASH",
+    "rule Write FLASH",
+    "rule Erase FLASH",
+    "rule Read EEPROM",
+    "rule Write EEPROM",
+    "rule illegal",
+];
+
+/// Every row that a stream ought to reach, in the order of the printed table. CAN can't come to
+/// 2, 10 and 11.
+fn wanted() -> Vec<String> {
+    let mut rows = Vec::new();
+    for port in ["CAN", "UART"] {
+        let uart_alone = [PIN_CAN_ONLY, INCOMPLETE, BAD_WRAPPING];
+        let numbers = (0..=11).filter(|number| port == "UART" || !uart_alone.contains(number));
+        rows.extend(numbers.map(|number| format!("{port} outcome {number}")));
+        rows.extend(PORT_ROWS.iter().map(|row| format!("{port} {row}")));
+        rows.extend(RIMS.iter().map(|rim| format!("{port} 0x030 at the rim 0x{rim:06X}")));
+    }
+    rows.extend(OTHER_ROWS.iter().map(|row| row.to_string()));
+    rows
+}
+
+/// The memory of an address, in words.
+fn memory(address: Address) -> &'static str {
+    match address {
+        Address::Flash(_) => "FLASH",
+        Address::Eeprom(_) => "EEPROM",
+    }
+}
+
+/// The rows of a frame that came to its number after 3, 10 and 11, on either port. `before` is
+/// the tidied node, `untidy` whether a staged command had to be dropped.
+fn frame_rows(before: &Node, untidy: bool, frame: &Frame, number: u8) -> Vec<String> {
+    let kind = frames::kind(frame);
+    let (d2, d3) = (frame[6], frame[7]);
+    let group = [0x101, 0x103, 0x105, 0x10D, 0x10F].contains(&kind);
+    let programming = matches!(before.mode, Mode::Programming(_));
+    let known_to_normal =
+        (0x100..=0x106).contains(&kind) || (0x10D..=0x10F).contains(&kind) || kind == 0x111;
+    let known_to_programming = [0x010, 0x020, 0x030, 0x040].contains(&kind);
+    let row = match number {
+        MALFORMED => "4 upper flag".to_string(),
+        NOT_HANDLED if known_to_normal || known_to_programming => "6 of the other mode".to_string(),
+        NOT_HANDLED => "6 of no mode".to_string(),
+        NOT_FOR_NODE if programming => "7 programming".to_string(),
+        NOT_FOR_NODE if group && d2 != 0 => "7 group, D2 not 0x00".to_string(),
+        NOT_FOR_NODE if group => "7 group, D3 another".to_string(),
+        NOT_FOR_NODE => "7 node".to_string(),
+        ILLEGAL if before.mode == Mode::Programming(None) => "8 drops nothing".to_string(),
+        ILLEGAL => "8 drops a staged command".to_string(),
+        NOTHING_STAGED if untidy => "9 after an untidy record".to_string(),
+        DONE => match (kind, before.mode) {
+            (0x040, Mode::Programming(Some(staged))) => {
+                format!("0x040 {:?} {}", staged.command, memory(staged.address))
+            }
+            (0x106, Mode::Normal { started: false }) => "0x106 to 0x1F1".to_string(),
+            _ if group && d3 == 0 => format!("0x{kind:03X} D3 0x00"),
+            _ if group => format!("0x{kind:03X} own group"),
+            _ => format!("0x{kind:03X}"),
+        },
+        _ => return vec![],
+    };
+    let mut rows = vec![row];
+    if kind == 0x105 && number == DONE && before.mode == (Mode::Normal { started: false }) {
+        rows.push("0x105 not started".to_string());
+    }
+    let rim = u32::from_be_bytes([0, frame[4], frame[5], frame[6]]);
+    if kind == 0x030 && [DONE, ILLEGAL].contains(&number) && RIMS.contains(&rim) {
+        rows.push(format!("0x030 at the rim 0x{rim:06X}"));
+    }
+    rows
+}
+
+/// The rows of a frame or UART byte that the node met in this record.
+fn port_rows(before: &Node, event: &Event, number: u8) -> Vec<String> {
+    let tidied = before.tidied();
+    let untidy = tidied.mode != before.mode;
+    let mut rows = vec![format!("outcome {number}")];
+    match event {
+        _ if number == DEAF => rows.push(match before.mode {
+            Mode::Error => "3 error".to_string(),
+            _ => "3 waiting".to_string(),
+        }),
+        _ if number < DEAF && number != DONE => {}
+        Event::CanFrame(bytes) => match Frame::try_from(&bytes[..]) {
+            Ok(frame) => {
+                rows.extend(frame_rows(&tidied, untidy, &frame, number));
+                if number == DONE && tidied.held_count > 0 {
+                    rows.push("0 with bytes held".to_string());
+                }
+            }
+            Err(_) => rows.push("4 length".to_string()),
+        },
+        Event::UartByte(byte) => match number {
+            INCOMPLETE if tidied.held_count > 0 || *byte == frames::START => {
+                rows.push("10 held".to_string())
+            }
+            INCOMPLETE => rows.push("10 skipped".to_string()),
+            BAD_WRAPPING => {}
+            _ => {
+                let frame: Frame = tidied.held[1..HELD - 1].try_into().expect("12 held bytes");
+                rows.extend(frame_rows(&tidied, untidy, &frame, number));
+                if number == DONE && tidied.held[1..].contains(&frames::START) {
+                    rows.push("0 with 0xAA inside".to_string());
+                }
+            }
+        },
+        _ => {}
+    }
+    let port = if matches!(event, Event::CanFrame(_)) { "CAN" } else { "UART" };
+    rows.iter().map(|row| format!("{port} {row}")).collect()
+}
+
+/// The rows of a restart that gave 0.
+fn restart_rows(session: &Session) -> Vec<String> {
+    let mut rows = vec![match session.node.mode {
+        Mode::Normal { started: true } => "normal, started",
+        Mode::Normal { started: false } => "normal, not started",
+        Mode::Programming(_) => "programming",
+        _ => "error",
+    }];
+    match session.eeprom[BOOTFL] {
+        0xFF => {}
+        0x00 => rows.push("BOOTFL 0x00"),
+        _ => rows.push("BOOTFL another"),
+    }
+    match (session.node.module, session.node.group) {
+        (0x00, 0x00) => rows.push("own numbers 00 00"),
+        (0xFF, 0xFF) => rows.push("own numbers FF FF"),
+        _ => {}
+    }
+    rows.iter().map(|row| format!("restart 0 {row}")).collect()
+}
+
+/// The rows that one answered event reaches; the session is the one after it.
+fn rows(before: &Node, session: &Session, event: &Event, number: u8) -> Vec<String> {
+    let row = match event {
+        Event::CanFrame(_) | Event::UartByte(_) => return port_rows(before, event, number),
+        Event::Restart { .. } if number == DONE => return restart_rows(session),
+        Event::Restart { .. } => format!("restart {number}"),
+        Event::Show(address) if number == DONE => {
+            format!("show 0 {}", asked(*address, 1).map_or("nowhere", memory))
+        }
+        Event::Show(_) => format!("show {number}"),
+        Event::IdentifierToFrame { .. } => format!("identifier to frame {number}"),
+        Event::FrameToIdentifier { .. } => format!("frame to identifier {number}"),
+        Event::Wrap { .. } => format!("wrap {number}"),
+        Event::Unwrap { .. } => format!("unwrap {number}"),
+        Event::AddressRule { address, command } => match asked(*address, *command) {
+            Some(legal) => {
+                format!("rule {:?} {}", Command::of(*command).expect("legal"), memory(legal))
+            }
+            None => "rule illegal".to_string(),
+        },
+        _ => return vec![],
+    };
+    vec![row]
+}
+
+/// Prints the table of counts; gives the rows that were never reached.
+pub fn coverage(stream: &[u8], out: &mut impl Write) -> io::Result<Vec<String>> {
+    let mut counts: HashMap<String, u64> = HashMap::new();
+    let mut session = Session::new();
+    let mut answered = 0;
+    for event in records(stream).filter_map(Event::read) {
+        let before = session.node.clone();
+        if let Some(answer) = session.apply(&event) {
+            answered += 1;
+            for row in rows(&before, &session, &event, answer.number) {
+                *counts.entry(row).or_default() += 1;
+            }
+        }
+    }
+    writeln!(out, "{answered:>9} events with an answer in {} sessions", session.number)?;
+    let mut missing = Vec::new();
+    for row in wanted() {
+        let count = counts.get(&row).copied().unwrap_or(0);
+        writeln!(out, "{count:>9} {row}")?;
+        if count == 0 {
+            missing.push(row);
+        }
+    }
+    Ok(missing)
+}

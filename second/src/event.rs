@@ -1,0 +1,140 @@
+//! The events of a session stream (PROTOCOL.md), read from records and written to them.
+
+use crate::node_record::NODE;
+
+pub const RECORD: usize = 64;
+/// The longest frame, data or lent output of an event.
+pub const LONGEST: usize = 20;
+
+pub type Record = [u8; RECORD];
+
+#[derive(Clone, PartialEq, Eq, Debug)]
+pub enum Event {
+    Restart { pin: u8, self_test: u8 },
+    CanFrame(Vec<u8>),
+    UartByte(u8),
+    Show(u32),
+    HandIn([u8; NODE]),
+    Lend { flash: u8, eeprom: u8 },
+    Poke { address: u32, value: u8 },
+    Begin { flash: u8, eeprom: u8, fixed: [u8; 6], full: u16 },
+    End,
+    IdentifierToFrame { identifier: u32, data: Vec<u8>, output: usize },
+    FrameToIdentifier { frame: Vec<u8>, output: usize },
+    Wrap { input: Vec<u8>, output: usize },
+    Unwrap { input: Vec<u8>, output: usize },
+    AddressRule { address: u32, command: u32 },
+}
+
+/// A number of four bytes, high byte first.
+fn number(bytes: &[u8]) -> u32 {
+    bytes[..4].iter().fold(0, |number, &byte| number << 8 | byte as u32)
+}
+
+/// A length, where more than the longest counts as the longest.
+fn length(byte: u8) -> usize {
+    (byte as usize).min(LONGEST)
+}
+
+impl Event {
+    /// The event of a record, none where its kind is another.
+    pub fn read(record: &Record) -> Option<Event> {
+        let b = record;
+        let from = |at: usize, count: u8| b[at..at + length(count)].to_vec();
+        Some(match b[0] {
+            0x01 => Event::Restart { pin: b[1], self_test: b[2] },
+            0x02 => Event::CanFrame(from(2, b[1])),
+            0x03 => Event::UartByte(b[1]),
+            0x04 => Event::Show(number(&b[1..])),
+            0x05 => Event::HandIn(std::array::from_fn(|i| b[1 + i])),
+            0x06 => Event::Lend { flash: b[1], eeprom: b[2] },
+            0x07 => Event::Poke { address: number(&b[1..]), value: b[5] },
+            0x08 => Event::Begin {
+                flash: b[1],
+                eeprom: b[2],
+                fixed: std::array::from_fn(|i| b[3 + i]),
+                full: u16::from_be_bytes([b[9], b[10]]),
+            },
+            0x09 => Event::End,
+            0x0A => Event::IdentifierToFrame {
+                identifier: number(&b[1..]),
+                data: from(7, b[5]),
+                output: length(b[6]),
+            },
+            0x0B => Event::FrameToIdentifier { frame: from(3, b[1]), output: length(b[2]) },
+            0x0C => Event::Wrap { input: from(3, b[1]), output: length(b[2]) },
+            0x0D => Event::Unwrap { input: from(3, b[1]), output: length(b[2]) },
+            0x0E => Event::AddressRule { address: number(&b[1..]), command: number(&b[5..]) },
+            _ => return None,
+        })
+    }
+
+    /// The record's kind.
+    pub fn kind(&self) -> u8 {
+        match self {
+            Event::Restart { .. } => 0x01,
+            Event::CanFrame(_) => 0x02,
+            Event::UartByte(_) => 0x03,
+            Event::Show(_) => 0x04,
+            Event::HandIn(_) => 0x05,
+            Event::Lend { .. } => 0x06,
+            Event::Poke { .. } => 0x07,
+            Event::Begin { .. } => 0x08,
+            Event::End => 0x09,
+            Event::IdentifierToFrame { .. } => 0x0A,
+            Event::FrameToIdentifier { .. } => 0x0B,
+            Event::Wrap { .. } => 0x0C,
+            Event::Unwrap { .. } => 0x0D,
+            Event::AddressRule { .. } => 0x0E,
+        }
+    }
+
+    /// The record of the event.
+    pub fn write(&self) -> Record {
+        let mut bytes = vec![self.kind()];
+        match self {
+            Event::Restart { pin, self_test } => bytes.extend([pin, self_test]),
+            Event::CanFrame(frame) => {
+                bytes.push(frame.len() as u8);
+                bytes.extend(frame);
+            }
+            Event::UartByte(byte) => bytes.push(*byte),
+            Event::Show(address) => bytes.extend(address.to_be_bytes()),
+            Event::HandIn(node) => bytes.extend(node),
+            Event::Lend { flash, eeprom } => bytes.extend([flash, eeprom]),
+            Event::Poke { address, value } => {
+                bytes.extend(address.to_be_bytes());
+                bytes.push(*value);
+            }
+            Event::Begin { flash, eeprom, fixed, full } => {
+                bytes.extend([flash, eeprom]);
+                bytes.extend(fixed);
+                bytes.extend(full.to_be_bytes());
+            }
+            Event::End => {}
+            Event::IdentifierToFrame { identifier, data, output } => {
+                bytes.extend(identifier.to_be_bytes());
+                bytes.extend([data.len() as u8, *output as u8]);
+                bytes.extend(data);
+            }
+            Event::FrameToIdentifier { frame: input, output }
+            | Event::Wrap { input, output }
+            | Event::Unwrap { input, output } => {
+                bytes.extend([input.len() as u8, *output as u8]);
+                bytes.extend(input);
+            }
+            Event::AddressRule { address, command } => {
+                bytes.extend(address.to_be_bytes());
+                bytes.extend(command.to_be_bytes());
+            }
+        }
+        let mut record = [0; RECORD];
+        record[..bytes.len()].copy_from_slice(&bytes);
+        record
+    }
+}
+
+/// All whole records of a stream.
+pub fn records(stream: &[u8]) -> impl Iterator<Item = &Record> {
+    stream.chunks_exact(RECORD).map(|record| record.try_into().expect("64 bytes"))
+}

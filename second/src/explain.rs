@@ -1,0 +1,148 @@
+//! Tells one event of a session stream in words.
+
+use crate::event::{records, Event};
+use crate::frames::{self, Frame};
+use crate::node::{Node, HELD};
+use crate::node_record::NODE;
+use crate::numbers::words;
+use crate::session::{hex, Session};
+
+/// Bytes as upper-case hex pairs.
+fn pairs(bytes: &[u8]) -> String {
+    bytes.iter().map(|byte| format!("{byte:02X}")).collect::<Vec<_>>().join(" ")
+}
+
+/// A node record in words, held bytes and staged command as they stand, tidy or not.
+fn node_words(node: &Node) -> String {
+    format!(
+        "pin {:?}, fixed {}, own numbers {:02X} {:02X}, {} held [{}], mode {:X?}",
+        node.pin,
+        pairs(&node.fixed),
+        node.module,
+        node.group,
+        node.held_count,
+        pairs(&node.held[..HELD.min(node.held_count as usize)]),
+        node.mode,
+    )
+}
+
+/// A frame of 12 bytes in words.
+fn frame_words(frame: &Frame) -> String {
+    format!(
+        "type 0x{:03X}, upper flag {}, response flag {}, module {:02X}, group {:02X}, data {}",
+        frames::kind(frame),
+        frames::upper_flag(frame) as u8,
+        frames::response_flag(frame) as u8,
+        frame[2],
+        frame[3],
+        pairs(&frame[4..]),
+    )
+}
+
+/// An event in words, met by this node.
+fn event_words(event: &Event, before: &Node) -> String {
+    match event {
+        Event::Restart { pin, self_test } => {
+            format!("restart, pin byte {pin}, self-test byte {self_test}")
+        }
+        Event::CanFrame(bytes) => {
+            let meaning = match Frame::try_from(&bytes[..]) {
+                Ok(frame) => frame_words(&frame),
+                Err(_) => "not 12 bytes".to_string(),
+            };
+            format!("CAN frame of {} bytes: {} ({meaning})", bytes.len(), pairs(bytes))
+        }
+        Event::UartByte(byte) => {
+            let tidied = before.tidied();
+            let mut text = format!("UART byte {byte:02X} behind {} held", tidied.held_count);
+            if tidied.held_count as usize == HELD {
+                let frame = tidied.held[1..HELD - 1].try_into().expect("12 bytes");
+                text += &format!(" ({})", frame_words(&frame));
+            }
+            text
+        }
+        Event::Show(address) => format!("show the row at 0x{address:06X}"),
+        Event::IdentifierToFrame { identifier, data, output } => format!(
+            "identifier 0x{identifier:08X} and {} data bytes [{}] to a frame, output of {output}",
+            data.len(),
+            pairs(data),
+        ),
+        Event::FrameToIdentifier { frame, output } => format!(
+            "frame of {} bytes [{}] to an identifier, output of {output}",
+            frame.len(),
+            pairs(frame),
+        ),
+        Event::Wrap { input, output } => {
+            format!("wrap {} bytes [{}], output of {output}", input.len(), pairs(input))
+        }
+        Event::Unwrap { input, output } => {
+            format!("unwrap {} bytes [{}], output of {output}", input.len(), pairs(input))
+        }
+        Event::AddressRule { address, command } => {
+            format!("ask the address rule: address 0x{address:06X}, command 0x{command:X}")
+        }
+        other => format!("{other:X?}"),
+    }
+}
+
+/// What the answer bytes behind the number mean.
+fn answer_words(event: &Event, bytes: &[u8]) -> Vec<String> {
+    let replies = |width: usize| {
+        let mut lines = vec![format!("replies {}", bytes[0])];
+        for reply in bytes[1..].chunks_exact(width).take(bytes[0] as usize) {
+            lines.push(format!("reply {}", pairs(reply)));
+        }
+        lines
+    };
+    match event {
+        Event::CanFrame(_) => replies(12),
+        Event::UartByte(_) => replies(15),
+        Event::Restart { .. } => vec![],
+        Event::Show(_) => vec![format!("part of {} cells [{}]", bytes[0], pairs(&bytes[1..]))],
+        Event::FrameToIdentifier { .. } => {
+            vec![format!("identifier {}, output [{}]", pairs(&bytes[..4]), pairs(&bytes[4..]))]
+        }
+        Event::AddressRule { .. } => {
+            vec![["FLASH", "EEPROM", "illegal"][bytes[0] as usize].to_string()]
+        }
+        _ => vec![format!("output [{}]", pairs(bytes))],
+    }
+}
+
+/// The N-th answered event of the stream in words, none where there are fewer.
+pub fn explain(stream: &[u8], wanted: u64) -> Option<String> {
+    let mut session = Session::new();
+    let mut count = 0;
+    for (index, event) in
+        records(stream).enumerate().filter_map(|(i, r)| Some((i, Event::read(r)?)))
+    {
+        let before = session.node.clone();
+        let Some(answer) = session.apply(&event) else { continue };
+        count += 1;
+        if count < wanted {
+            continue;
+        }
+        let bytes = &answer.line[1..];
+        let mut lines = vec![
+            format!(
+                "event {count}: session {}, its event {}, record {} of the stream, kind 0x{:02X}",
+                session.number,
+                session.events,
+                index + 1,
+                event.kind(),
+            ),
+            format!("what: {}", event_words(&event, &before)),
+            format!("lent: FLASH {}, EEPROM {}", session.lent_flash, session.lent_eeprom),
+            format!("node before: {}", node_words(&before)),
+            format!("number {}: {}", answer.number, words(answer.number)),
+        ];
+        lines.extend(answer_words(&event, &bytes[1..]));
+        if event.kind() <= 0x03 {
+            lines.push(format!("node after: {}", node_words(&session.node)));
+            lines.push(format!("NODE: {}", pairs(&bytes[bytes.len() - NODE..])));
+        }
+        lines.push(format!("line: {}", hex(&answer.line)));
+        return Some(lines.join("\n"));
+    }
+    None
+}

@@ -1,0 +1,139 @@
+//! Makes session streams, steered by the program's own node so that much happens on both ports.
+
+mod asks;
+mod ports;
+mod records;
+mod requests;
+mod restarts;
+
+use crate::event::{Event, LONGEST};
+use crate::memory::{EEPROM_BASE, EEPROM_CELLS, FLASH_CELLS};
+use crate::node::Mode;
+use crate::random::Random;
+use crate::session::Session;
+use std::io::{self, Write};
+
+struct Writer<'a, W: Write> {
+    out: &'a mut W,
+    random: Random,
+    session: Session,
+    /// How many events with an answer a session gets.
+    limit: u64,
+    /// A block and an EEPROM row that this session likes to come back to.
+    block: u32,
+    row: u32,
+    /// How many percent of UART frames are damaged.
+    damage: usize,
+    result: io::Result<()>,
+}
+
+/// Writes a stream of sessions.
+pub fn generate(
+    seed: u64,
+    sessions: u32,
+    events: u64,
+    full: u16,
+    out: &mut impl Write,
+) -> io::Result<()> {
+    let mut writer = Writer {
+        out,
+        random: Random::new(seed),
+        session: Session::new(),
+        limit: events,
+        block: 0x001000,
+        row: 0xF00020,
+        damage: 0,
+        result: Ok(()),
+    };
+    for index in 0..sessions {
+        writer.play(index, full);
+    }
+    writer.result
+}
+
+impl<W: Write> Writer<'_, W> {
+    /// Writes an event and does it; events behind the session's limit are left out.
+    fn emit(&mut self, event: Event) {
+        let outside = matches!(event, Event::Begin { .. } | Event::End);
+        if !outside && self.session.events >= self.limit {
+            return;
+        }
+        let mut record = event.write();
+        let longest = LONGEST as u8;
+        if event.kind() == 0x02 && record[1] == longest {
+            record[1] = self.random.pick(&[20, 21, 63, 255]);
+        }
+        if event.kind() == 0x0A && record[5] == longest {
+            record[5] = self.random.pick(&[20, 21, 255]);
+        }
+        if event.kind() == 0x0A && record[6] == longest {
+            record[6] = self.random.pick(&[20, 21, 255]);
+        }
+        if self.result.is_ok() {
+            self.result = self.out.write_all(&record);
+        }
+        self.session.apply(&event);
+    }
+
+    /// One whole session.
+    fn play(&mut self, index: u32, full: u16) {
+        let flash = if index % 2 == 0 { 0xFF } else { self.random.byte() };
+        let eeprom = if index % 3 == 0 { 0xFF } else { self.random.byte() };
+        let fixed = self.random.bytes();
+        self.block = 0x001000 + 64 * self.random.below(960) as u32;
+        self.row = EEPROM_BASE + 8 * self.random.below(128) as u32;
+        self.damage = self.random.pick(&[0, 6, 12, 25]);
+        self.emit(Event::Begin { flash, eeprom, fixed, full });
+        while self.session.events < self.limit && self.result.is_ok() {
+            self.scene();
+        }
+        self.emit(Event::End);
+    }
+
+    /// One scene of a session.
+    fn scene(&mut self) {
+        if !self.lengths_right() && self.random.chance(60) {
+            self.emit(Event::Lend { flash: 0, eeprom: 0 });
+        }
+        if self.deaf() && self.random.chance(60) {
+            self.prepared_restart();
+            return;
+        }
+        match self.random.weighted(&[40, 9, 3, 2, 10, 16, 20, 8, 4, 3, 3, 2, 1]) {
+            0 if self.programming() && self.random.chance(60) => self.programming_scene(),
+            0 => (0..1 + self.random.below(5)).for_each(|_| self.any_request()),
+            1 => self.programming_scene(),
+            2 => self.prepared_restart(),
+            3 => self.emit_restart(),
+            4 => self.show(),
+            5 => self.ask_address_rule(),
+            6 => self.convert(),
+            7 => self.hand_in(),
+            8 => self.poke(),
+            9 => self.wrong_lengths(),
+            10 => self.cut_uart(),
+            11 => self.noise(),
+            _ => self.strange_record(),
+        }
+    }
+
+    /// Whether full lengths are lent.
+    fn lengths_right(&self) -> bool {
+        self.session.lent_flash == FLASH_CELLS && self.session.lent_eeprom == EEPROM_CELLS
+    }
+
+    /// Whether the node is in error mode or waiting for restart.
+    fn deaf(&self) -> bool {
+        matches!(self.session.node.mode, Mode::Error | Mode::Waiting)
+    }
+
+    /// Whether the node is in programming mode.
+    fn programming(&self) -> bool {
+        matches!(self.session.node.mode, Mode::Programming(_))
+    }
+
+    /// The own numbers of the node.
+    fn own(&self) -> (u8, u8) {
+        (self.session.node.module, self.session.node.group)
+    }
+}

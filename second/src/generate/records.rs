@@ -1,0 +1,136 @@
+//! Wrong memory lengths and hostile node records.
+
+use super::ports::Port;
+use super::Writer;
+use crate::event::Event;
+use crate::frames;
+use crate::memory::EEPROM_BASE;
+use crate::node::HELD;
+use crate::node_record::*;
+use std::io::Write;
+
+impl<W: Write> Writer<'_, W> {
+    /// Lends memories of which at least one is of a wrong length.
+    pub fn lend_wrong(&mut self) {
+        let (flash, eeprom) =
+            self.random.pick(&[(1, 0), (2, 0), (0, 1), (0, 2), (1, 1), (2, 1), (255, 7), (0, 255)]);
+        self.emit(Event::Lend { flash, eeprom });
+    }
+
+    /// Some events with wrong memory lengths, sometimes also with an untidy record.
+    pub fn wrong_lengths(&mut self) {
+        self.lend_wrong();
+        for _ in 0..1 + self.random.below(3) {
+            match self.random.below(5) {
+                0 => self.emit_restart(),
+                1 => self.show(),
+                2 => {
+                    let frame = self.some_frame();
+                    self.send(Port::Can, frame);
+                }
+                3 => self.cut_uart(),
+                _ => {
+                    let record = self.hostile_record();
+                    self.emit(Event::HandIn(record));
+                }
+            }
+        }
+        if self.random.chance(80) {
+            self.emit(Event::Lend { flash: 0, eeprom: 0 });
+        }
+    }
+
+    /// Hands in a record of any kind, then does something that shows what it counts as.
+    pub fn hand_in(&mut self) {
+        let record = self.hostile_record();
+        self.emit(Event::HandIn(record));
+        if record[HELD_COUNT_AT] as usize == HELD && self.random.chance(70) {
+            self.finish_held();
+            return;
+        }
+        match self.random.below(12) {
+            0..=3 => {
+                let frame = self.frame_of(0x040);
+                self.send(Port::Can, frame);
+            }
+            4..=5 => {
+                let frame = self.some_frame();
+                self.send(Port::Can, frame);
+            }
+            6..=7 => self.finish_held(),
+            8 => self.noise(),
+            9 => self.emit_restart(),
+            _ => self.any_request(),
+        }
+    }
+
+    /// A node record, in one or more ways unlike those the node makes.
+    pub fn hostile_record(&mut self) -> [u8; NODE] {
+        if self.random.chance(10) {
+            return std::array::from_fn(|_| self.random.byte());
+        }
+        let mut record = write(&self.session.node.tidied());
+        record[0] = self.random.pick(&[0, 1, 1, 1, 1, 1, 2, 255]);
+        if self.random.chance(30) {
+            (record[7], record[8]) = (self.random.byte(), self.random.byte());
+        }
+        if self.random.chance(15) {
+            record[1..7].copy_from_slice(&self.random.bytes::<6>());
+        }
+        record[MODE_AT] = match self.random.below(20) {
+            0..=4 => 0,
+            5..=8 => 1,
+            9..=17 => 2,
+            18 => self.random.pick(&[3, 4]),
+            _ => self.random.pick(&[5, 6, 128, 255]),
+        };
+        record[STAGED_AT] = self.random.pick(&[0, 1, 1, 2, 2, 2, 3, 3, 4, 255]);
+        let address = self.address();
+        let in_eeprom = address >= EEPROM_BASE;
+        record[ADDRESS_KIND_AT] = match self.random.below(8) {
+            0 => !in_eeprom as u8,
+            1 => self.random.pick(&[2, 255]),
+            _ => in_eeprom as u8,
+        };
+        record[ADDRESS_AT..].copy_from_slice(&address.to_be_bytes());
+        if self.random.chance(6) {
+            record[ADDRESS_AT] = self.random.any();
+        }
+        self.hostile_held(&mut record);
+        record
+    }
+
+    /// Held bytes of a record: of a good frame, or too many, or not starting with 0xAA.
+    pub fn hostile_held(&mut self, record: &mut [u8; NODE]) {
+        if self.random.chance(40) {
+            return;
+        }
+        let frame = if self.random.chance(50) {
+            let data = self.data();
+            frames::frame(0x040, 0, record[7], record[8], data)
+        } else {
+            self.some_frame()
+        };
+        let mut held = frames::wrapped(&frame);
+        if self.random.chance(15) {
+            held[0] = self.random.any();
+        }
+        record[HELD_AT..MODE_AT].copy_from_slice(&held[..HELD]);
+        record[HELD_COUNT_AT] = match self.random.below(10) {
+            0..=3 => HELD as u8,
+            4..=6 => self.random.below(HELD + 1) as u8,
+            7 => self.random.pick(&[15, 16, 127, 255]),
+            8 => self.random.any(),
+            _ => 13,
+        };
+    }
+
+    /// A record that means no event.
+    pub fn strange_record(&mut self) {
+        if self.session.events < self.limit && self.result.is_ok() {
+            let mut record: [u8; 64] = self.random.bytes();
+            record[0] = self.random.pick(&[0x00, 0x0F, 0x10, 0x7F, 0xFF]);
+            self.result = self.out.write_all(&record);
+        }
+    }
+}

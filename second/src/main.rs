@@ -1,0 +1,92 @@
+//! The second program: a HAPCAN bootloader written from the documents alone, to be compared with
+//! the proved one. See README.md and PROTOCOL.md.
+
+mod apply_recipes;
+mod coverage;
+mod digest;
+mod event;
+mod explain;
+mod frames;
+mod generate;
+mod memory;
+mod node;
+mod node_record;
+mod numbers;
+mod random;
+mod recipe;
+mod recipe_coverage;
+mod recipe_stream;
+mod recipes;
+#[cfg(test)]
+mod samples;
+mod session;
+
+use std::io::{self, BufWriter, Read, Write};
+use std::process::ExitCode;
+
+const USAGE: &str = "second generate SEED SESSIONS EVENTS FULL > stream
+second answer < stream
+second coverage < stream
+second explain N < stream
+second recipes SEED COUNT > stream
+second apply-recipes < stream
+second recipe-coverage < stream";
+
+/// All of standard input.
+fn input() -> io::Result<Vec<u8>> {
+    let mut bytes = Vec::new();
+    io::stdin().lock().read_to_end(&mut bytes)?;
+    Ok(bytes)
+}
+
+/// The trouble of a table with rows that were never reached.
+fn complaint(missing: Vec<String>) -> Option<String> {
+    (!missing.is_empty()).then(|| format!("never reached: {}", missing.join("; ")))
+}
+
+/// Runs a command; gives a message where the answer is no.
+fn run(arguments: &[&str], out: &mut impl Write) -> io::Result<Option<String>> {
+    let number = |text: &str| -> io::Result<u64> {
+        let wrong = || io::Error::other(format!("not a number that fits: {text}"));
+        text.parse().map_err(|_| wrong())
+    };
+    match arguments {
+        ["generate", seed, sessions, events, full] => {
+            let full = number(full)?.min(65_535) as u16;
+            let (sessions, events) = (number(sessions)? as u32, number(events)?);
+            generate::generate(number(seed)?, sessions, events, full, out)?;
+            Ok(None)
+        }
+        ["answer"] => session::answer_stream(&input()?, out).map(|_| None),
+        ["coverage"] => Ok(complaint(coverage::coverage(&input()?, out)?)),
+        ["explain", event] => match explain::explain(&input()?, number(event)?) {
+            Some(text) => writeln!(out, "{text}").map(|_| None),
+            None => Ok(Some("the stream has fewer events".to_string())),
+        },
+        ["recipes", seed, count] => {
+            recipes::recipes(number(seed)?, number(count)? as usize, out).map(|_| None)
+        }
+        ["apply-recipes"] => apply_recipes::apply_recipes(&input()?, out),
+        ["recipe-coverage"] => Ok(complaint(recipe_coverage::recipe_coverage(&input()?, out)?)),
+        _ => Ok(Some(USAGE.to_string())),
+    }
+}
+
+/// Exit status 1 with a message on standard error where the answer is no.
+fn main() -> ExitCode {
+    let arguments: Vec<String> = std::env::args().skip(1).collect();
+    let arguments: Vec<&str> = arguments.iter().map(|argument| &argument[..]).collect();
+    let mut out = BufWriter::new(io::stdout().lock());
+    let result = run(&arguments, &mut out).and_then(|message| out.flush().map(|_| message));
+    match result {
+        Ok(None) => ExitCode::SUCCESS,
+        Ok(Some(message)) => {
+            eprintln!("{message}");
+            ExitCode::FAILURE
+        }
+        Err(error) => {
+            eprintln!("{error}");
+            ExitCode::FAILURE
+        }
+    }
+}

@@ -1,0 +1,286 @@
+//! Document 01's samples, and some rules that are easily got wrong.
+
+use crate::event::{Event, LONGEST, RECORD};
+use crate::frames;
+use crate::memory::*;
+use crate::node::*;
+use crate::node_record;
+use crate::numbers::*;
+use crate::recipe::*;
+use crate::session::Session;
+
+/// A session with blank memories, own numbers 05 0A, BOOTFL as given, restarted.
+fn session(bootfl: u8, pin: u8) -> Session {
+    let mut session = Session::new();
+    session.apply(&Event::Begin { flash: 0xFF, eeprom: 0xFF, fixed: [1, 2, 3, 4, 5, 6], full: 0 });
+    session.eeprom[BOOTFL] = bootfl;
+    session.eeprom[MODULE] = 0x05;
+    session.eeprom[GROUP] = 0x0A;
+    session.apply(&Event::Restart { pin, self_test: 0 });
+    session
+}
+
+/// Bytes of hex pairs with blanks between.
+fn bytes(pairs: &str) -> Vec<u8> {
+    pairs.split_whitespace().map(|pair| u8::from_str_radix(pair, 16).unwrap()).collect()
+}
+
+/// A CAN frame's number and its first reply.
+fn can(session: &mut Session, frame: &str) -> (u8, Vec<u8>) {
+    let answer = session.apply(&Event::CanFrame(bytes(frame))).unwrap();
+    (answer.number, answer.line[3..3 + 12 * answer.line[2] as usize].to_vec())
+}
+
+/// The numbers of some UART bytes, and the replies of the last.
+fn uart(session: &mut Session, all: &str) -> (Vec<u8>, Vec<u8>) {
+    let mut numbers = Vec::new();
+    let mut reply = Vec::new();
+    for byte in bytes(all) {
+        let answer = session.apply(&Event::UartByte(byte)).unwrap();
+        numbers.push(answer.number);
+        reply = answer.line[3..3 + 15 * answer.line[2] as usize].to_vec();
+    }
+    (numbers, reply)
+}
+
+const PROGRAM: &str = "10 00 F0 F0 FF FF 05 0A FF FF FF FF";
+const WRAPPED_PROGRAM: &str = "AA 10 00 F0 F0 FF FF 05 0A FF FF FF FF F9 A5";
+
+#[test]
+fn s1_s2_identifiers() {
+    for (identifier, head) in [(0x0200_F0F0, "10 00 F0 F0"), (0x1FFF_FFFF, "FF F1 FF FF")] {
+        let mut frame = [0; 12];
+        assert_eq!(frames::identifier_to_frame(identifier, &[7; 8], &mut frame), DONE);
+        assert_eq!(frame[..4], bytes(head));
+        let mut data = [0; 8];
+        assert_eq!(frames::frame_to_identifier(&frame, &mut data), (DONE, identifier));
+        assert_eq!(data, [7; 8]);
+    }
+}
+
+#[test]
+fn s3_s4_enter_programming_on_uart() {
+    let mut session = session(0x00, 1);
+    let (numbers, reply) = uart(&mut session, WRAPPED_PROGRAM);
+    assert_eq!(numbers, [vec![INCOMPLETE; 14], vec![DONE]].concat());
+    assert_eq!(reply, bytes("AA 10 01 05 0A FF FF 03 04 FF FF FF FF 21 A5"));
+    assert_eq!(session.node.mode, Mode::Programming(None));
+    assert_eq!(session.eeprom[BOOTFL], 0xFF);
+}
+
+#[test]
+fn s5_to_s9_addresses() {
+    let legal = |address, command| asked(address, command).is_some();
+    assert!(legal(0x00FFF8, 2));
+    assert!(!legal(0x000FF8, 2) && !legal(0x010000, 2));
+    assert!(legal(0x00FFC0, 3));
+    assert!(!legal(0x00FFC8, 3) && !legal(0xF00000, 3));
+    assert!(legal(0xF003F8, 2) && !legal(0xF00400, 2));
+    assert!(!legal(0x001000, 0x101) && !legal(0x0100_1000, 1));
+}
+
+#[test]
+fn s10_flash_write() {
+    let mut session = session(0xFF, 0);
+    session.flash[0x2000] = 0x0F;
+    let (number, reply) = can(&mut session, "03 00 05 0A 00 20 00 11 22 02 33 44");
+    assert_eq!((number, reply), (DONE, bytes("03 01 05 0A 00 20 00 11 22 02 33 44")));
+    let (_, reply) = can(&mut session, "04 00 05 0A F3 01 02 03 04 05 06 07");
+    assert_eq!(reply, bytes("04 01 05 0A 03 01 02 03 04 05 06 07"));
+    assert_eq!(session.flash[0x2000], 0x03);
+}
+
+#[test]
+fn s11_recipe() {
+    let recipe = bytes("01 05 0A 03 F0 00 30 41 42 43 44 45 46 47 48 0F");
+    let mut output = [0xEE; 40];
+    assert_eq!(translate(&recipe, &mut output), Ok(3));
+    let frames = "03 00 05 0A F0 00 30 FF FF 02 FF FF 04 00 05 0A 41 42 43 44 45 46 47 48
+        02 00 05 0A FF FF FF FF FF FF FF FF EE EE EE EE";
+    assert_eq!(output.to_vec(), bytes(frames));
+    assert_eq!(translate(&recipe, &mut [0; 35]), Err(Refusal { number: 26, place: 0 }));
+}
+
+#[test]
+fn blank_flash_sum() {
+    let flash = vec![0xFF; FLASH_CELLS];
+    assert_eq!(firmware_sum(&flash), 0x6F_8D03);
+    assert_eq!(stored_sum(&flash), 0xFF_FFFF);
+    assert_eq!(session(0x00, 0).node.mode, Mode::Normal { started: false });
+}
+
+#[test]
+fn incorrect_firmware_for_0x106_alone() {
+    let mut session = session(0x00, 0);
+    let (_, reply) = can(&mut session, "10 60 00 00 00 00 05 0A 00 00 00 00");
+    assert_eq!(reply, bytes("1F 11 05 0A 01 6F 8D 03 FF FF 03 04"));
+    let (_, reply) = can(&mut session, "10 50 00 00 00 00 00 0A 00 00 00 00");
+    assert_eq!(reply, bytes("10 51 05 0A 30 00 03 FF FF FF 03 04"));
+}
+
+#[test]
+fn group_requests() {
+    let mut session = session(0x00, 0);
+    for (frame, number) in [
+        ("10 30 00 00 00 00 00 00 00 00 00 00", DONE),
+        ("10 30 00 00 00 00 00 0A 00 00 00 00", DONE),
+        ("10 30 00 00 00 00 00 0B 00 00 00 00", NOT_FOR_NODE),
+        ("10 30 00 00 00 00 05 0A 00 00 00 00", NOT_FOR_NODE),
+        ("10 40 00 00 00 00 00 0A 00 00 00 00", NOT_FOR_NODE),
+    ] {
+        assert_eq!(can(&mut session, frame).0, number, "{frame}");
+    }
+}
+
+#[test]
+fn order_of_numbers() {
+    let mut session = session(0x00, 0);
+    assert_eq!(uart(&mut session, "AA 55").0, [PIN_CAN_ONLY; 2]);
+    assert_eq!(can(&mut session, "03 03 05 0A 00 00 00 00 00 00 00").0, MALFORMED);
+    assert_eq!(can(&mut session, "03 03 05 0A 00 00 00 00 00 00 00 00").0, MALFORMED);
+    assert_eq!(can(&mut session, "03 01 05 0A 00 00 00 00 00 00 00 00").0, RESPONSE);
+    assert_eq!(can(&mut session, "03 00 77 77 00 00 00 00 00 00 00 00").0, NOT_HANDLED);
+    assert_eq!(can(&mut session, "10 10 77 77 00 00 00 00 00 00 00 00").0, DONE);
+    assert_eq!(can(&mut session, "").0, DEAF);
+    assert_eq!(uart(&mut session, "AA").0, [PIN_CAN_ONLY]);
+    session.apply(&Event::Lend { flash: 1, eeprom: 0 });
+    assert_eq!(can(&mut session, "").0, MEMORY_LENGTH);
+    assert_eq!(uart(&mut session, "AA").0, [MEMORY_LENGTH]);
+    let before = session.node.clone();
+    let answer = session.apply(&Event::Restart { pin: 1, self_test: 1 }).unwrap();
+    assert_eq!((answer.number, &session.node), (MEMORY_LENGTH, &before));
+}
+
+#[test]
+fn held_bytes() {
+    let mut session = session(0x00, 1);
+    assert_eq!(uart(&mut session, "01 02 AA AA AA").0, [INCOMPLETE; 5]);
+    assert_eq!(session.node.held[..3], [0xAA; 3]);
+    assert_eq!(can(&mut session, PROGRAM).0, DONE);
+    assert_eq!(session.node.held_count, 3);
+    let (numbers, _) = uart(&mut session, "00 00 00 00 00 00 00 00 00 00 54 A4");
+    assert_eq!(numbers[11], BAD_WRAPPING);
+    assert_eq!(session.node.held_count, 0);
+    let (numbers, _) = uart(&mut session, WRAPPED_PROGRAM);
+    assert_eq!((numbers[14], session.node.held_count), (NOT_HANDLED, 0));
+    uart(&mut session, "AA 01");
+    session.eeprom[GROUP] = 0x0B;
+    session.apply(&Event::Restart { pin: 0, self_test: 1 });
+    assert_eq!((session.node.pin, session.node.mode), (Pin::CanOnly, Mode::Error));
+    assert_eq!((session.node.group, session.node.held_count), (0x0B, 0));
+}
+
+#[test]
+fn staged_commands() {
+    let mut session = session(0xFF, 0);
+    let data = "04 00 05 0A 00 01 02 03 04 05 06 07";
+    assert_eq!(can(&mut session, data).0, NOTHING_STAGED);
+    session.flash[0xFF80..].fill(0x5A);
+    assert_eq!(can(&mut session, "03 00 05 0A 00 FF C0 00 00 03 00 00").0, DONE);
+    assert_eq!(can(&mut session, data).1, bytes("04 01 05 0A FF FF FF FF FF FF FF FF"));
+    assert_eq!(session.flash[0xFFBF..0xFFC1], [0x5A, 0xFF]);
+    assert_eq!(session.flash[0xFFFF..], [0xFF, 0x5A]);
+    assert_eq!(can(&mut session, "03 00 05 0B 00 FF F8 00 00 03 00 00").0, NOT_FOR_NODE);
+    assert_eq!(can(&mut session, data).0, DONE);
+    assert_eq!(can(&mut session, "03 00 05 0A 00 FF F8 00 00 03 00 00").0, ILLEGAL);
+    assert_eq!(can(&mut session, data).0, NOTHING_STAGED);
+}
+
+#[test]
+fn own_numbers_and_bootfl() {
+    let mut session = session(0xFF, 0);
+    assert_eq!(can(&mut session, "03 00 05 0A F0 00 20 00 00 02 00 00").0, DONE);
+    assert_eq!(can(&mut session, "04 00 05 0A 00 01 02 03 04 05 06 07").0, DONE);
+    assert_eq!((session.eeprom[MODULE], session.eeprom[GROUP]), (6, 7));
+    assert_eq!(can(&mut session, "01 00 05 0A 00 00 00 00 00 00 00 00").0, NOT_FOR_NODE);
+    assert_eq!(can(&mut session, "02 00 05 0A 00 00 00 00 00 00 00 00"), (DONE, vec![]));
+    assert_eq!((session.eeprom[BOOTFL], session.node.mode), (0x00, Mode::Waiting));
+}
+
+#[test]
+fn untidy_records() {
+    let mut session = session(0xFF, 1);
+    let tidy = node_record::write(&session.node);
+    for (staged, kind, address, number) in [
+        (3, 0, 0x00_FFF8_u32, NOTHING_STAGED),
+        (3, 1, 0x00_2000, DONE),
+        (3, 1, 0xF0_0000, NOTHING_STAGED),
+        (2, 1, 0x00_2000, NOTHING_STAGED),
+        (1, 0, 0xF0_0000, NOTHING_STAGED),
+        (1, 9, 0xF0_0000, DONE),
+        (4, 0, 0x00_2000, NOTHING_STAGED),
+    ] {
+        let mut record = tidy;
+        record[node_record::STAGED_AT] = staged;
+        record[node_record::ADDRESS_KIND_AT] = kind;
+        record[node_record::ADDRESS_AT..].copy_from_slice(&address.to_be_bytes());
+        session.apply(&Event::HandIn(record));
+        assert_eq!(can(&mut session, "04 00 05 0A 00 00 00 00 00 00 00 00").0, number);
+    }
+    for (count, first, held) in [(15, 0xAA, 0), (14, 0xAA, 14), (3, 0xAB, 0), (0, 0xAA, 0)] {
+        let mut record = tidy;
+        record[node_record::HELD_COUNT_AT] = count;
+        record[node_record::HELD_AT..node_record::MODE_AT].fill(first);
+        session.apply(&Event::HandIn(record));
+        session.apply(&Event::Lend { flash: 2, eeprom: 2 });
+        assert_eq!(can(&mut session, "").0, MEMORY_LENGTH);
+        session.apply(&Event::Lend { flash: 0, eeprom: 0 });
+        assert_eq!(session.node.held_count, held);
+        assert!(session.node.held[held as usize..].iter().all(|&byte| byte == 0));
+    }
+}
+
+#[test]
+fn recipe_refusals() {
+    let refused = |pairs: &str| {
+        let refusal = translate(&bytes(pairs), &mut [0; 4096]).unwrap_err();
+        (refusal.number, refusal.place)
+    };
+    assert_eq!(refused(""), (20, 0));
+    assert_eq!(refused("01 00 00"), (20, 3));
+    assert_eq!(refused("01 00"), (22, 0));
+    assert_eq!(refused("0F"), (23, 0));
+    assert_eq!(refused("04"), (21, 0));
+    assert_eq!(refused("01 00 00 01"), (23, 3));
+    assert_eq!(refused("01 00 00 0F 0F"), (23, 4));
+    assert_eq!(refused("01 00 00 0F 00"), (21, 4));
+    assert_eq!(refused("01 00 00 02 FF"), (22, 3));
+    assert_eq!(refused("01 00 00 03 00 10 00 00 00 00 00 00 00 00 00"), (24, 3));
+    assert_eq!(refused("01 00 00 03 F0 04 00 00 00 00 00 00 00 00 00 99"), (24, 3));
+}
+
+#[test]
+fn most_items() {
+    let row = bytes("03 F0 00 30 00 00 00 00 00 00 00 00");
+    let recipe = |rows: usize, end: &[u8]| [vec![1, 0, 0], row.repeat(rows), end.to_vec()].concat();
+    let place = 3 + 12 * 2_046;
+    let last = |end: &[u8]| items(&recipe(2_046, end)).map(|places| places.len());
+    assert_eq!(last(&[0x0F]), Ok(2_048));
+    assert_eq!(last(&[0x0F, 0x77]), Err(Refusal { number: 25, place: place + 1 }));
+    assert_eq!(last(&row), Err(Refusal { number: 20, place: place + 12 }));
+    assert_eq!(last(&[0x0F, 0x0F]), Err(Refusal { number: 25, place: place + 1 }));
+}
+
+#[test]
+fn records_read_back() {
+    let frame = |length: usize| vec![0x5A; length];
+    for event in [
+        Event::Restart { pin: 2, self_test: 3 },
+        Event::CanFrame(frame(LONGEST)),
+        Event::UartByte(0xAA),
+        Event::Show(0x0100_1000),
+        Event::HandIn(std::array::from_fn(|i| i as u8)),
+        Event::Lend { flash: 1, eeprom: 2 },
+        Event::Poke { address: 0xF0_0026, value: 9 },
+        Event::Begin { flash: 1, eeprom: 2, fixed: [3, 4, 5, 6, 7, 8], full: 0x1234 },
+        Event::End,
+        Event::IdentifierToFrame { identifier: 0x0200_F0F0, data: frame(8), output: 12 },
+        Event::FrameToIdentifier { frame: frame(12), output: 8 },
+        Event::Wrap { input: frame(12), output: 15 },
+        Event::Unwrap { input: frame(15), output: 12 },
+        Event::AddressRule { address: 0x1000, command: 0x101 },
+    ] {
+        assert_eq!(Event::read(&event.write()), Some(event));
+    }
+    assert_eq!(Event::read(&[0xFF; RECORD]), None);
+}

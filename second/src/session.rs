@@ -1,0 +1,218 @@
+//! A session: memories, node, counts and digest, and what each event does to them.
+
+use crate::digest::Digest;
+use crate::event::{records, Event};
+use crate::frames::{self, FRAME, WRAPPED};
+use crate::memory::{self, Address, Lent, EEPROM_BASE, EEPROM_CELLS, FLASH_CELLS};
+use crate::node::{Node, Outcome, Pin};
+use crate::node_record;
+use std::io::{self, Write};
+
+/// What a lent output of a conversion is filled with.
+const OUTPUT_FILL: u8 = 0xEE;
+
+pub struct Session {
+    pub flash: Vec<u8>,
+    pub eeprom: Vec<u8>,
+    pub lent_flash: usize,
+    pub lent_eeprom: usize,
+    pub node: Node,
+    /// The session's number, from 1.
+    pub number: u32,
+    /// Events so far that had an answer.
+    pub events: u64,
+    pub full: u16,
+    digest: Digest,
+    restart: [u64; 2],
+    can: [u64; 12],
+    uart: [u64; 12],
+}
+
+/// The answer to an event: its number, and the line's bytes with the kind in front.
+pub struct Answer {
+    pub number: u8,
+    pub line: Vec<u8>,
+}
+
+/// Answer bytes of a number, replies of one width, and the node.
+fn with_replies(outcome: &Outcome, width: usize, node: &Node) -> Vec<u8> {
+    let mut bytes = vec![outcome.number, outcome.replies.len() as u8];
+    bytes.extend(outcome.replies.iter().flatten());
+    bytes.resize(2 + 2 * width, 0);
+    bytes.extend(node_record::write(node));
+    bytes
+}
+
+/// How many cells are lent of a memory.
+fn lent_cells(choice: u8, full: usize) -> usize {
+    match choice {
+        0 => full,
+        1 => full - 1,
+        _ => full + 1,
+    }
+}
+
+/// Bytes as two lower-case hex digits each.
+pub fn hex(bytes: &[u8]) -> String {
+    const DIGITS: &[u8; 16] = b"0123456789abcdef";
+    let digits = |byte: &u8| [DIGITS[*byte as usize >> 4], DIGITS[*byte as usize & 15]];
+    bytes.iter().flat_map(digits).map(char::from).collect()
+}
+
+impl Session {
+    /// The state before any session has begun.
+    pub fn new() -> Session {
+        Session {
+            flash: vec![0; FLASH_CELLS + 1],
+            eeprom: vec![0; EEPROM_CELLS + 1],
+            lent_flash: FLASH_CELLS,
+            lent_eeprom: EEPROM_CELLS,
+            node: Node::fresh([0; 6]),
+            number: 0,
+            events: 0,
+            full: 0,
+            digest: Digest::default(),
+            restart: [0; 2],
+            can: [0; 12],
+            uart: [0; 12],
+        }
+    }
+
+    /// Does one event; gives its answer where it has one.
+    pub fn apply(&mut self, event: &Event) -> Option<Answer> {
+        let bytes = self.answer(event)?;
+        let number = bytes[0];
+        match event {
+            Event::Restart { .. } => self.restart[number as usize] += 1,
+            Event::CanFrame(_) => self.can[number as usize] += 1,
+            Event::UartByte(_) => self.uart[number as usize] += 1,
+            _ => {}
+        }
+        let mut line = vec![event.kind()];
+        line.extend(bytes);
+        self.events += 1;
+        self.digest.add(&line);
+        Some(Answer { number, line })
+    }
+
+    /// Does one event; gives its answer bytes, the number first, where it has some.
+    fn answer(&mut self, event: &Event) -> Option<Vec<u8>> {
+        let mut lent = Lent {
+            flash: &mut self.flash[..self.lent_flash],
+            eeprom: &mut self.eeprom[..self.lent_eeprom],
+        };
+        Some(match event {
+            Event::Restart { pin, self_test } => {
+                let pin = if *pin == 0 { Pin::CanOnly } else { Pin::CanAndUart };
+                let mut bytes = vec![self.node.restart(&lent, pin, *self_test == 0)];
+                bytes.extend(node_record::write(&self.node));
+                bytes
+            }
+            Event::CanFrame(frame) => {
+                let outcome = self.node.can_frame(&mut lent, frame);
+                with_replies(&outcome, FRAME, &self.node)
+            }
+            Event::UartByte(byte) => {
+                let outcome = self.node.uart_byte(&mut lent, *byte);
+                with_replies(&outcome, WRAPPED, &self.node)
+            }
+            Event::Show(address) => {
+                let (number, part) = lent.show(*address);
+                let mut bytes = vec![number, part.len() as u8];
+                bytes.extend(part);
+                bytes
+            }
+            Event::IdentifierToFrame { identifier, data, output } => {
+                let mut output = vec![OUTPUT_FILL; *output];
+                let number = frames::identifier_to_frame(*identifier, data, &mut output);
+                [vec![number], output].concat()
+            }
+            Event::FrameToIdentifier { frame, output } => {
+                let mut output = vec![OUTPUT_FILL; *output];
+                let (number, identifier) = frames::frame_to_identifier(frame, &mut output);
+                [vec![number], identifier.to_be_bytes().to_vec(), output].concat()
+            }
+            Event::Wrap { input, output } => {
+                let mut output = vec![OUTPUT_FILL; *output];
+                [vec![frames::wrap(input, &mut output)], output].concat()
+            }
+            Event::Unwrap { input, output } => {
+                let mut output = vec![OUTPUT_FILL; *output];
+                [vec![frames::unwrap(input, &mut output)], output].concat()
+            }
+            Event::AddressRule { address, command } => match memory::asked(*address, *command) {
+                Some(Address::Flash(_)) => vec![0, 0],
+                Some(Address::Eeprom(_)) => vec![0, 1],
+                None => vec![8, 2],
+            },
+            _ => {
+                self.arrange(event);
+                return None;
+            }
+        })
+    }
+
+    /// Does an event that has no answer.
+    fn arrange(&mut self, event: &Event) {
+        match event {
+            Event::HandIn(bytes) => self.node = node_record::read(bytes),
+            Event::Lend { flash, eeprom } => {
+                self.lent_flash = lent_cells(*flash, FLASH_CELLS);
+                self.lent_eeprom = lent_cells(*eeprom, EEPROM_CELLS);
+            }
+            Event::Poke { address, value } => {
+                if let Some(cell) = self.cell(*address) {
+                    *cell = *value;
+                }
+            }
+            Event::Begin { flash, eeprom, fixed, full } => {
+                let number = self.number + 1;
+                *self = Session { number, full: *full, ..Session::new() };
+                self.flash.fill(*flash);
+                self.eeprom.fill(*eeprom);
+                self.node = Node::fresh(*fixed);
+            }
+            _ => {}
+        }
+    }
+
+    /// The cell that a poke reaches.
+    fn cell(&mut self, address: u32) -> Option<&mut u8> {
+        match address.checked_sub(EEPROM_BASE) {
+            Some(place) => self.eeprom.get_mut(place as usize),
+            None => self.flash.get_mut(address as usize),
+        }
+    }
+
+    /// The closing line.
+    pub fn closing_line(&self) -> String {
+        let join = |counts: &[u64]| counts.iter().map(|n| format!(" {n}")).collect::<String>();
+        format!(
+            "session {} events {} digest {} flash {} eeprom {} restart{} can{} uart{}",
+            self.number,
+            self.events,
+            self.digest.value(),
+            Digest::of(&self.flash),
+            Digest::of(&self.eeprom),
+            join(&self.restart),
+            join(&self.can),
+            join(&self.uart),
+        )
+    }
+}
+
+/// Interprets a whole stream and prints what PROTOCOL.md says.
+pub fn answer_stream(stream: &[u8], out: &mut impl Write) -> io::Result<()> {
+    let mut session = Session::new();
+    for event in records(stream).filter_map(Event::read) {
+        if let Some(answer) = session.apply(&event) {
+            if session.events <= session.full as u64 {
+                writeln!(out, "{}", hex(&answer.line))?;
+            }
+        }
+        if event == Event::End {
+            writeln!(out, "{}", session.closing_line())?;
+        }
+    }
+    Ok(())
+}
