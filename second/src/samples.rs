@@ -46,6 +46,7 @@ fn uart(session: &mut Session, all: &str) -> (Vec<u8>, Vec<u8>) {
 const PROGRAM: &str = "10 00 F0 F0 FF FF 05 0A FF FF FF FF";
 const WRAPPED_PROGRAM: &str = "AA 10 00 F0 F0 FF FF 05 0A FF FF FF FF F9 A5";
 
+/// S1 and S2: identifiers and frames, both ways.
 #[test]
 fn s1_s2_identifiers() {
     for (identifier, head) in [(0x0200_F0F0, "10 00 F0 F0"), (0x1FFF_FFFF, "FF F1 FF FF")] {
@@ -58,6 +59,7 @@ fn s1_s2_identifiers() {
     }
 }
 
+/// S3 and S4: the wrapped request and its wrapped reply.
 #[test]
 fn s3_s4_enter_programming_on_uart() {
     let mut session = session(0x00, 1);
@@ -68,6 +70,7 @@ fn s3_s4_enter_programming_on_uart() {
     assert_eq!(session.eeprom[BOOTFL], 0xFF);
 }
 
+/// S5 to S9: the address rule at its rims, and numbers too large for it.
 #[test]
 fn s5_to_s9_addresses() {
     let legal = |address, command| asked(address, command).is_some();
@@ -79,6 +82,7 @@ fn s5_to_s9_addresses() {
     assert!(!legal(0x001000, 0x101) && !legal(0x0100_1000, 1));
 }
 
+/// S10: a FLASH write combines by "and"; the reply shows the cells afterwards.
 #[test]
 fn s10_flash_write() {
     let mut session = session(0xFF, 0);
@@ -90,6 +94,7 @@ fn s10_flash_write() {
     assert_eq!(session.flash[0x2000], 0x03);
 }
 
+/// S11: a recipe and its frames; bytes behind the last frame stay; 26 one byte short.
 #[test]
 fn s11_recipe() {
     let recipe = bytes("01 05 0A 03 F0 00 30 41 42 43 44 45 46 47 48 0F");
@@ -101,6 +106,7 @@ fn s11_recipe() {
     assert_eq!(translate(&recipe, &mut [0; 35]), Err(Refusal { number: 26, place: 0 }));
 }
 
+/// Blank FLASH: its sum, its stored sum, no start.
 #[test]
 fn blank_flash_sum() {
     let flash = vec![0xFF; FLASH_CELLS];
@@ -109,6 +115,7 @@ fn blank_flash_sum() {
     assert_eq!(session(0x00, 0).node.mode, Mode::Normal { started: false });
 }
 
+/// 0x1F1 answers 0x106 alone, 0x105 gets the table row.
 #[test]
 fn incorrect_firmware_for_0x106_alone() {
     let mut session = session(0x00, 0);
@@ -118,6 +125,7 @@ fn incorrect_firmware_for_0x106_alone() {
     assert_eq!(reply, bytes("10 51 05 0A 30 00 03 FF FF FF 03 04"));
 }
 
+/// A group request wants D2 0x00 and D3 0x00 or the own group.
 #[test]
 fn group_requests() {
     let mut session = session(0x00, 0);
@@ -132,6 +140,7 @@ fn group_requests() {
     }
 }
 
+/// The order of the checks, and a restart refused with 1.
 #[test]
 fn order_of_numbers() {
     let mut session = session(0x00, 0);
@@ -151,6 +160,7 @@ fn order_of_numbers() {
     assert_eq!((answer.number, &session.node), (MEMORY_LENGTH, &before));
 }
 
+/// Held bytes: skipping, 0xAA inside, CAN in between, 11, a whole frame, restart.
 #[test]
 fn held_bytes() {
     let mut session = session(0x00, 1);
@@ -170,6 +180,7 @@ fn held_bytes() {
     assert_eq!((session.node.group, session.node.held_count), (0x0B, 0));
 }
 
+/// A staged command stays, is dropped by 8, and an erase touches its block alone.
 #[test]
 fn staged_commands() {
     let mut session = session(0xFF, 0);
@@ -186,6 +197,7 @@ fn staged_commands() {
     assert_eq!(can(&mut session, data).0, NOTHING_STAGED);
 }
 
+/// Own numbers stay until restart; leaving sets BOOTFL to 0x00.
 #[test]
 fn own_numbers_and_bootfl() {
     let mut session = session(0xFF, 0);
@@ -197,6 +209,7 @@ fn own_numbers_and_bootfl() {
     assert_eq!((session.eeprom[BOOTFL], session.node.mode), (0x00, Mode::Waiting));
 }
 
+/// What an untidy record counts as, also at number 1.
 #[test]
 fn untidy_records() {
     let mut session = session(0xFF, 1);
@@ -230,6 +243,7 @@ fn untidy_records() {
     }
 }
 
+/// The refusals of small recipes, with their places.
 #[test]
 fn recipe_refusals() {
     let refused = |pairs: &str| {
@@ -249,6 +263,7 @@ fn recipe_refusals() {
     assert_eq!(refused("01 00 00 03 F0 04 00 00 00 00 00 00 00 00 00 99"), (24, 3));
 }
 
+/// The refusals at 2,048 items.
 #[test]
 fn most_items() {
     let row = bytes("03 F0 00 30 00 00 00 00 00 00 00 00");
@@ -261,6 +276,7 @@ fn most_items() {
     assert_eq!(last(&[0x0F, 0x0F]), Err(Refusal { number: 25, place: place + 1 }));
 }
 
+/// Every event written to a record is read back.
 #[test]
 fn records_read_back() {
     let frame = |length: usize| vec![0x5A; length];

@@ -1,0 +1,4 @@
+pub mod Look
+pub mod Judged
+pub mod Kept
+pub mod Tight

@@ -1,0 +1,7 @@
+pub mod Tight
+pub mod Done
+pub mod Fields
+pub mod Wrapped
+pub mod Samples
+pub mod Calls
+pub mod RoundTrips
