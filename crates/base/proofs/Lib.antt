@@ -1,5 +1,6 @@
 pub mod Choice
 pub mod Patched
 pub mod Stored
+pub mod Listed
 pub mod Bytes
 pub mod Tight

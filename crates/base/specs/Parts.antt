@@ -1,7 +1,7 @@
 -- A part of a list of cells, and a list with a part replaced.
-use Prim.Native.Nat.{ℕ, _+_}
-use mathlib.Core.List.{List, _++_}
-use lib.ListN.{length, take, drop}
+use Prim.Native.Nat.{ℕ, zero, suc, _+_}
+use mathlib.Core.List.{List, [], _∷_, _++_}
+use lib.ListN.{length, getD, take, drop}
 
 -- the k cells from a on
 abbrev pub part : List ℕ → ℕ → ℕ → List ℕ
@@ -10,3 +10,8 @@ part m a k = take k (drop a m)
 -- m with the cells from a on replaced by new
 unfoldable pub patch : List ℕ → ℕ → List ℕ → List ℕ
 patch m a new = take a m ++ (new ++ drop (a + length new) m)
+
+-- the k elements from i on, written out; 0 behind the end
+abbrev pub listed : List ℕ → ℕ → ℕ → List ℕ
+listed m i zero = []
+listed m i (suc k) = getD m i 0 ∷ listed m (suc i) k

@@ -1,7 +1,7 @@
 -- A call of each function, witnessed by its real contract: arguments, what the output held, the result, and what the output holds
 -- afterwards. The contracts are the generated `Reads`: nothing is said of a body.
 -- Assumes nothing.
-use mathlib.Core.Path.{_≡_, _∙_, sym, ap}
+use mathlib.Core.Path.{_≡_, _∙_, refl, sym, ap}
 use mathlib.Core.Bool.{true, false}
 use mathlib.Core.List.{List}
 use Prim.Native.Nat.{ℕ}
@@ -13,8 +13,8 @@ use borrow.Fn.Kinds.{endedOf}
 use Rattle.frames.specs.declared.Identified.{Identified}
 use Rattle.frames.specs.Frame.{dataOf, hapcanOf, identifierOf, legalIdentifier, upperFlags}
 use Rattle.frames.specs.Wrapping.{innerOf, wrappedOf, rightlyWrapped}
-use Rattle.frames.specs.Numbers.{toHapcanNumber, toCanNumber, wrapNumber, unwrapNumber, outputAfter, identifiedOf}
-use Rattle.frames.proofs.Done.{to-hapcan-done, done-to-hapcan, to-can-done, done-to-can, wrap-done, done-wrap, unwrap-done, done-unwrap, output-done}
+use Rattle.frames.specs.Numbers.{toHapcanNumber, toCanNumber, wrapNumber, unwrapNumber, identifiedOf}
+use Rattle.frames.proofs.Done.{to-hapcan-done, done-to-hapcan, to-can-done, done-to-can, wrap-done, done-wrap, unwrap-done, done-unwrap}
 use Rattle.frames.proofs.to_hapcan as to-hapcan
 use Rattle.frames.proofs.to_hapcan.Kinds as to-hapcan-kinds
 use Rattle.frames.proofs.to_hapcan.Reads as to-hapcan-reads
@@ -51,61 +51,55 @@ pub data Unwrap : List ℕ → List ℕ → ℕ → List ℕ → Type 1 where
       (s : AtExit (endedOf 2 unwrap-kinds.ps unwrap-kinds.r) κs) → unwrap-reads.Post κs a r s
       → Unwrap ((a .0) .now) ((a .1 .0) .now) r ((s .1 .0) .now)
 
--- what each contract says of such a call
-pub to-hapcan-said : {i n : ℕ} {d held f : List ℕ} → ToHapcan i d held n f
-    → (n ≡ toHapcanNumber i d (length held)) × (f ≡ outputAfter n (hapcanOf i d) held)
-to-hapcan-said (call κs a r s p) = p
+-- what each contract says of such a call, as far as 0 goes
+to-hapcan-said : {i n : ℕ} {d held f : List ℕ} → ToHapcan i d held n f → (n ≡ toHapcanNumber i d (length held)) × (n ≡ 0 → f ≡ hapcanOf i d)
+to-hapcan-said (call κs a r s p) = (p .0, λ z. rw z at (p .1))
 
-pub to-can-said : {f held d : List ℕ} {r : Identified} → ToCan f held r d
-    → (r ≡ identifiedOf (toCanNumber f (length held)) f) × (d ≡ outputAfter (r .number) (dataOf f) held)
-to-can-said (call κs a r s p) = p
+to-can-said : {f held d : List ℕ} {r : Identified} → ToCan f held r d
+    → (r ≡ identifiedOf (toCanNumber f (length held)) f) × (r .number ≡ 0 → d ≡ dataOf f)
+to-can-said (call κs a r s p) = (p .0, λ z. rw z at (p .1))
 
-pub wrap-said : {n : ℕ} {f held w : List ℕ} → Wrap f held n w
-    → (n ≡ wrapNumber f (length held)) × (w ≡ outputAfter n (wrappedOf f) held)
-wrap-said (call κs a r s p) = p
+wrap-said : {n : ℕ} {f held w : List ℕ} → Wrap f held n w → (n ≡ wrapNumber f (length held)) × (n ≡ 0 → w ≡ wrappedOf f)
+wrap-said (call κs a r s p) = (p .0, λ z. rw z at (p .1))
 
-pub unwrap-said : {n : ℕ} {w held f : List ℕ} → Unwrap w held n f
-    → (n ≡ unwrapNumber w (length held)) × (f ≡ outputAfter n (innerOf w) held)
-unwrap-said (call κs a r s p) = p
+unwrap-said : {n : ℕ} {w held f : List ℕ} → Unwrap w held n f → (n ≡ unwrapNumber w (length held)) × (n ≡ 0 → f ≡ innerOf w)
+unwrap-said (call κs a r s p) = (p .0, λ z. rw z at (p .1))
 
 -- what a call that gave 0 was handed, and what it left
 pub to-hapcan-gave : {i : ℕ} {d held f : List ℕ} → ToHapcan i d held 0 f
     → (length held ≡ 12) × (legalIdentifier i ≡ true) × (length d ≡ 8) × (f ≡ hapcanOf i d)
 to-hapcan-gave {i} {d} {held} c =
-    let h = to-hapcan-done i d (length held) (sym (to-hapcan-said c .0)) in (h .0, h .1, h .2, to-hapcan-said c .1)
+    let h = to-hapcan-done i d (length held) (sym (to-hapcan-said c .0)) in (h .0, h .1, h .2, to-hapcan-said c .1 refl)
 
 pub to-can-gave : {i : ℕ} {f held d : List ℕ} → ToCan f held (record { number = 0; identifier = i }) d
     → (length held ≡ 8) × (length f ≡ 12) × (upperFlags f ≡ false) × (i ≡ identifierOf f) × (d ≡ dataOf f)
 to-can-gave {i} {f} {held} c =
     let e = ap (λ (r : Identified). r .number) (to-can-said c .0) in
     let h = to-can-done f (length held) (sym e) in
-    (h .0, h .1, h .2, rw (← e) at (ap (λ (r : Identified). r .identifier) (to-can-said c .0)), to-can-said c .1)
+    (h .0, h .1, h .2, rw (← e) at (ap (λ (r : Identified). r .identifier) (to-can-said c .0)), to-can-said c .1 refl)
 
 pub wrap-gave : {f held w : List ℕ} → Wrap f held 0 w → (length held ≡ 15) × (length f ≡ 12) × (w ≡ wrappedOf f)
-wrap-gave {f} {held} c = let h = wrap-done f (length held) (sym (wrap-said c .0)) in (h .0, h .1, wrap-said c .1)
+wrap-gave {f} {held} c = let h = wrap-done f (length held) (sym (wrap-said c .0)) in (h .0, h .1, wrap-said c .1 refl)
 
 pub unwrap-gave : {w held f : List ℕ} → Unwrap w held 0 f
     → (length held ≡ 12) × (length w ≡ 15) × (rightlyWrapped w ≡ true) × (f ≡ innerOf w)
-unwrap-gave {w} {held} c = let h = unwrap-done w (length held) (sym (unwrap-said c .0)) in (h .0, h .1, h .2, unwrap-said c .1)
+unwrap-gave {w} {held} c = let h = unwrap-done w (length held) (sym (unwrap-said c .0)) in (h .0, h .1, h .2, unwrap-said c .1 refl)
 
 -- where a call gives 0, and what it then leaves
 pub to-hapcan-gives : {i n : ℕ} {d held f : List ℕ} → ToHapcan i d held n f → length held ≡ 12 → legalIdentifier i ≡ true → length d ≡ 8
     → (n ≡ 0) × (f ≡ hapcanOf i d)
 to-hapcan-gives {i} {n} {d} {held} c h l e =
-    let z = to-hapcan-said c .0 ∙ done-to-hapcan i d (length held) h l e in
-    (z, to-hapcan-said c .1 ∙ output-done n (hapcanOf i d) held z)
+    let z = to-hapcan-said c .0 ∙ done-to-hapcan i d (length held) h l e in (z, to-hapcan-said c .1 z)
 
 pub to-can-gives : {f held d : List ℕ} {r : Identified} → ToCan f held r d → length held ≡ 8 → length f ≡ 12 → upperFlags f ≡ false
     → (r ≡ record { number = 0; identifier = identifierOf f }) × (d ≡ dataOf f)
-to-can-gives {f} {held} {d} {r} c h l u =
+to-can-gives {f} {held} c h l u =
     let z = rw (done-to-can f (length held) h l u) at (to-can-said c .0) in
-    (z, to-can-said c .1 ∙ output-done (r .number) (dataOf f) held (ap (λ (q : Identified). q .number) z))
+    (z, to-can-said c .1 (ap (λ (q : Identified). q .number) z))
 
 pub wrap-gives : {n : ℕ} {f held w : List ℕ} → Wrap f held n w → length held ≡ 15 → length f ≡ 12 → (n ≡ 0) × (w ≡ wrappedOf f)
-wrap-gives {n} {f} {held} c h l =
-    let z = wrap-said c .0 ∙ done-wrap f (length held) h l in (z, wrap-said c .1 ∙ output-done n (wrappedOf f) held z)
+wrap-gives {n} {f} {held} c h l = let z = wrap-said c .0 ∙ done-wrap f (length held) h l in (z, wrap-said c .1 z)
 
 pub unwrap-gives : {n : ℕ} {w held f : List ℕ} → Unwrap w held n f → length held ≡ 12 → length w ≡ 15 → rightlyWrapped w ≡ true
     → (n ≡ 0) × (f ≡ innerOf w)
-unwrap-gives {n} {w} {held} c h l t =
-    let z = unwrap-said c .0 ∙ done-unwrap w (length held) h l t in (z, unwrap-said c .1 ∙ output-done n (innerOf w) held z)
+unwrap-gives {n} {w} {held} c h l t = let z = unwrap-said c .0 ∙ done-unwrap w (length held) h l t in (z, unwrap-said c .1 z)

@@ -7,10 +7,10 @@ use Prim.Native.Nat.{ℕ, _<_}
 use native.Mathlib.Omega.{arith}
 use lib.Dec.{eqb, lit<}
 use lib.ListN.{length}
-use borrow.Author.Tests.{eq-eqb, ne-eqb, eqb-true, not-false}
+use borrow.Author.Tests.{eq-eqb, eqb-true, not-false}
 use Rattle.frames.specs.Frame.{legalIdentifier, upperFlags}
 use Rattle.frames.specs.Wrapping.{rightlyWrapped}
-use Rattle.frames.specs.Numbers.{toHapcanNumber, toCanNumber, wrapNumber, unwrapNumber, outputAfter}
+use Rattle.frames.specs.Numbers.{toHapcanNumber, toCanNumber, wrapNumber, unwrapNumber}
 
 -- a check that gives k, which is not 0, was passed where 0 came out
 passed : (b : Bool) (k n : ℕ) → 0 < k → cond b k n ≡ 0 → (b ≡ false) × (n ≡ 0)
@@ -67,10 +67,3 @@ module _ (w : List ℕ) (room : ℕ) where
   pub done-unwrap : room ≡ 12 → length w ≡ 15 → rightlyWrapped w ≡ true → unwrapNumber w room ≡ 0
   unfolding unwrapNumber
   done-unwrap r l t = simp (eq-eqb _ _ r, eq-eqb _ _ l, t)
-
--- what an output holds after 0, and after any other number
-pub output-done : (n : ℕ) (result held : List ℕ) → n ≡ 0 → outputAfter n result held ≡ result
-output-done n result held e = rw e
-
-pub output-kept : (n : ℕ) (result held : List ℕ) → (n ≡ 0 → ⊥) → outputAfter n result held ≡ held
-output-kept n result held e = simp (ne-eqb n 0 e)

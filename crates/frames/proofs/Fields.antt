@@ -1,25 +1,32 @@
--- A frame and its identifier, field by field: each is read back as it was written, so that neither direction loses anything. A frame
--- below is twelve bytes without an upper flag.
+-- A frame and its identifier: each field is read back as it was written, so that neither direction loses anything. The way from an
+-- identifier asks nothing of it; the way from a frame asks for twelve bytes without an upper flag.
 -- Assumes nothing.
 use mathlib.Core.Path.{_≡_, _∙_, refl, sym, ap}
 use mathlib.Core.Bool.{true, false}
 use mathlib.Core.List.{List, [], _∷_}
-use Prim.Native.Nat.{ℕ, _+_, _*_, _/_, _%_}
+use Prim.Native.Nat.{ℕ, _+_, _/_, _%_}
 use native.Mathlib.Omega.{arith}
 use lib.ListN.{length}
 use borrow.Author.Tests.{eq-eqb, eqb-true, le-leb, leb-true, not-false}
 use Rattle.base.proofs.Bytes.{Bytes, byte-of}
-use Rattle.frames.specs.Frame.{typeOf, flagOf, moduleOf, groupOf, dataOf, upperFlags, identifierOf, legalIdentifier, typeIn, flagIn, moduleIn, groupIn, headOf, hapcanOf}
+use Rattle.frames.specs.Frame.{typeOf, flagsOf, flagOf, moduleOf, groupOf, dataOf, upperFlags, identifierOf, legalIdentifier, typeIn, flagIn, moduleIn, groupIn, headOf, hapcanOf}
 
 module _ (i : ℕ) (d : List ℕ) where
-  pub hapcan-length : length (hapcanOf i d) ≡ 4 + length d
-  unfolding hapcanOf headOf
-  hapcan-length = omega arith
+  -- CAN to HAPCAN to CAN gives the identifier back, whatever it is
+  pub hapcan-identifier : identifierOf (hapcanOf i d) ≡ i
+  unfolding identifierOf hapcanOf headOf
+  hapcan-identifier = omega arith
 
+  -- every field is kept
   pub hapcan-fields : (typeOf (hapcanOf i d) ≡ typeIn i) × (flagOf (hapcanOf i d) ≡ flagIn i) × (moduleOf (hapcanOf i d) ≡ moduleIn i)
       × (groupOf (hapcanOf i d) ≡ groupIn i)
   unfolding hapcanOf headOf
   hapcan-fields = (omega arith, omega arith, refl, refl)
+
+  -- the frame has twelve bytes for eight data bytes, no upper flag, the data unchanged, and bytes alone if the identifier is legal
+  pub hapcan-length : length (hapcanOf i d) ≡ 4 + length d
+  unfolding hapcanOf headOf
+  hapcan-length = omega arith
 
   pub hapcan-data : dataOf (hapcanOf i d) ≡ d
   unfolding hapcanOf headOf
@@ -28,25 +35,20 @@ module _ (i : ℕ) (d : List ℕ) where
   pub hapcan-no-upper-flags : upperFlags (hapcanOf i d) ≡ false
   unfolding hapcanOf headOf
   hapcan-no-upper-flags =
-      let e : (i / 131_072 % 16 * 16 + i / 65_536 % 2) % 16 / 2 ≡ 0 = omega arith in
+      let e : flagsOf (hapcanOf i d) / 2 ≡ 0 = omega arith in
       simp (eq-eqb _ _ e)
-
-  -- CAN to HAPCAN to CAN gives the identifier back, whatever it is
-  pub hapcan-identifier : identifierOf (hapcanOf i d) ≡ i
-  unfolding identifierOf hapcanOf headOf
-  hapcan-identifier = omega arith
 
   pub hapcan-bytes : legalIdentifier i ≡ true → Bytes d → Bytes (hapcanOf i d)
   unfolding hapcanOf headOf
-  hapcan-bytes l h = let k = leb-true i 0x1FFFFFFF l in (omega arith, (omega arith, (omega arith, (omega arith, h))))
+  hapcan-bytes l h = let k = leb-true i _ l in (omega arith, (omega arith, (omega arith, (omega arith, h))))
 
 module _ (f : List ℕ) (bytes : Bytes f) where
   -- twelve bytes never say more than 29 bits
   pub identifier-legal : legalIdentifier (identifierOf f) ≡ true
   unfolding identifierOf
-  identifier-legal =
-      le-leb (identifierOf f) 0x1FFFFFFF (omega (arith, byte-of f 0 bytes, byte-of f 1 bytes, byte-of f 2 bytes, byte-of f 3 bytes))
+  identifier-legal = omega (arith, le-leb, byte-of f 0 bytes, byte-of f 1 bytes, byte-of f 2 bytes, byte-of f 3 bytes)
 
+  -- every field is kept
   pub identifier-fields : (typeIn (identifierOf f) ≡ typeOf f) × (flagIn (identifierOf f) ≡ flagOf f) × (moduleIn (identifierOf f) ≡ moduleOf f)
       × (groupIn (identifierOf f) ≡ groupOf f)
   unfolding identifierOf

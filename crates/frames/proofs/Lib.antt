@@ -2,6 +2,5 @@ pub mod Tight
 pub mod Done
 pub mod Fields
 pub mod Wrapped
-pub mod Samples
 pub mod Calls
 pub mod RoundTrips

@@ -9,10 +9,11 @@ use lib.Dec.{eqb}
 use lib.ListN.{length, getD, take, drop, length-append, length-take, length-drop, take-append-drop, drop-of-length-le}
 use lib.Seq.{drop-cons, getD-append-add, take-at}
 use borrow.Author.Tests.{eq-eqb, eqb-true}
-use Rattle.base.proofs.Choice.{both-true, true-both}
+use Rattle.base.proofs.Choice.{both-true}
 use Rattle.frames.specs.Wrapping.{sumOf, wrappedOf, innerOf, rightlyWrapped}
 
 module _ (f : List ℕ) (l : length f ≡ 12) where
+  -- the wrapping of a frame is fifteen bytes with a right start, sum and stop
   pub wrapped-length : length (wrappedOf f) ≡ 15
   unfolding wrappedOf
   wrapped-length = omega (arith, length-append f (sumOf f % 256 ∷ 0xA5 ∷ []))
@@ -27,8 +28,8 @@ module _ (f : List ℕ) (l : length f ≡ 12) where
   wrapped-right =
       let sum : getD (wrappedOf f) 13 0 ≡ sumOf f % 256 = rw l at (getD-append-add f (sumOf f % 256 ∷ 0xA5 ∷ []) 0 0) in
       let stop : getD (wrappedOf f) 14 0 ≡ 0xA5 = rw l at (getD-append-add f (sumOf f % 256 ∷ 0xA5 ∷ []) 1 0) in
-      true-both _ _ (eq-eqb _ _ wrapped-length)
-      (true-both _ _ (eq-eqb _ _ (sum ∙ ap (λ (x : List ℕ). sumOf x % 256) (sym wrapped-inner))) (eq-eqb _ _ stop))
+      let inside = sum ∙ ap (λ (x : List ℕ). sumOf x % 256) (sym wrapped-inner) in
+      simp (eq-eqb _ _ wrapped-length, eq-eqb _ _ inside, eq-eqb _ _ stop)
 
 -- the last two of fourteen
 two : (w : List ℕ) → length w ≡ 14 → drop 12 w ≡ getD w 12 0 ∷ getD w 13 0 ∷ []

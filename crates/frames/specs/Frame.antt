@@ -22,13 +22,14 @@ flagOf f = flagsOf f % 2
 abbrev pub upperFlags : List ℕ → Bool
 upperFlags f = not (eqb (flagsOf f / 2) 0)
 
+-- "module, group": bytes 3 and 4
 abbrev pub moduleOf : List ℕ → ℕ
 moduleOf f = getD f 2 0
 
 abbrev pub groupOf : List ℕ → ℕ
 groupOf f = getD f 3 0
 
--- D0 to D7
+-- "data D0 to D7": the other eight
 abbrev pub dataOf : List ℕ → List ℕ
 dataOf f = drop 4 f
 
@@ -49,7 +50,7 @@ moduleIn i = i / 256 % 256
 abbrev pub groupIn : ℕ → ℕ
 groupIn i = i % 256
 
--- an identifier is legal in 29 bits: none is "above 0x1FFFFFFF"
+-- "29 bits": a legal identifier is not "above 0x1FFFFFFF"
 abbrev pub legalIdentifier : ℕ → Bool
 legalIdentifier i = leb i 0x1FFFFFFF
 

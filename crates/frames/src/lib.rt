@@ -18,7 +18,9 @@ pub struct Identified {
 
 // The 12 HAPCAN bytes of a CAN identifier and its 8 data bytes. 4 for an identifier above 0x1FFFFFFF or not 8 data bytes.
 pub fn to_hapcan(identifier: u32, data: &[u8], frame: &mut [u8]) -> u8
-    ensures { λ r. ⌜ (r ≡ toHapcanNumber identifier (now («data» .entry)) (length (now (frame .entry)))) × (now (frame .exit) ≡ outputAfter r (hapcanOf identifier (now («data» .entry))) (now (frame .entry))) ⌝ }
+    ensures { λ r. ⌜
+        (r ≡ toHapcanNumber identifier (now («data» .entry)) (length (now (frame .entry))))
+        × (now (frame .exit) ≡ outputAfter r (hapcanOf identifier (now («data» .entry))) (now (frame .entry))) ⌝ }
 {
     let to_hapcan_number = convert::to_hapcan_number(identifier, data, frame.len());
     if to_hapcan_number == 0 {
@@ -30,7 +32,9 @@ pub fn to_hapcan(identifier: u32, data: &[u8], frame: &mut [u8]) -> u8
 
 // The CAN identifier and the 8 data bytes of 12 HAPCAN bytes. 4 for not 12 bytes or an upper flag set.
 pub fn to_can(frame: &[u8], data: &mut [u8]) -> Identified
-    ensures { λ r. ⌜ (r ≡ identifiedOf (toCanNumber (now (frame .entry)) (length (now («data» .entry)))) (now (frame .entry))) × (now («data» .exit) ≡ outputAfter (r .number) (dataOf (now (frame .entry))) (now («data» .entry))) ⌝ }
+    ensures { λ r. ⌜
+        (r ≡ identifiedOf (toCanNumber (now (frame .entry)) (length (now («data» .entry)))) (now (frame .entry)))
+        × (now («data» .exit) ≡ outputAfter (r .number) (dataOf (now (frame .entry))) (now («data» .entry))) ⌝ }
 {
     let to_can_number = convert::to_can_number(frame, data.len());
     if to_can_number == 0 {
@@ -48,21 +52,25 @@ pub fn to_can(frame: &[u8], data: &mut [u8]) -> Identified
 
 // The 15 bytes of a frame on UART: 0xAA, the 12, their sum modulo 256, 0xA5. 4 for not 12 bytes; flags are not looked at.
 pub fn wrap(frame: &[u8], wrapped: &mut [u8]) -> u8
-    ensures { λ r. ⌜ (r ≡ wrapNumber (now (frame .entry)) (length (now (wrapped .entry)))) × (now (wrapped .exit) ≡ outputAfter r (wrappedOf (now (frame .entry))) (now (wrapped .entry))) ⌝ }
+    ensures { λ r. ⌜
+        (r ≡ wrapNumber (now (frame .entry)) (length (now (wrapped .entry))))
+        × (now (wrapped .exit) ≡ outputAfter r (wrappedOf (now (frame .entry))) (now (wrapped .entry))) ⌝ }
 {
     let wrap_number = wrapping::wrap_number(frame, wrapped.len());
     if wrap_number == 0 {
         wrapped[0] = 0xAA;
-        slices::copy(frame, &mut wrapped[1..13]);
         wrapped[13] = slices::sum_of(frame);
         wrapped[14] = 0xA5;
+        slices::copy(frame, &mut wrapped[1..13]);
     }
     wrap_number
 }
 
 // The 12 bytes of a frame as it came on UART. 4 for not 15 bytes, 11 for a wrong start, sum or stop; flags are not looked at.
 pub fn unwrap(wrapped: &[u8], frame: &mut [u8]) -> u8
-    ensures { λ r. ⌜ (r ≡ unwrapNumber (now (wrapped .entry)) (length (now (frame .entry)))) × (now (frame .exit) ≡ outputAfter r (innerOf (now (wrapped .entry))) (now (frame .entry))) ⌝ }
+    ensures { λ r. ⌜
+        (r ≡ unwrapNumber (now (wrapped .entry)) (length (now (frame .entry))))
+        × (now (frame .exit) ≡ outputAfter r (innerOf (now (wrapped .entry))) (now (frame .entry))) ⌝ }
 {
     let unwrap_number = wrapping::unwrap_number(wrapped, frame.len());
     if unwrap_number == 0 {

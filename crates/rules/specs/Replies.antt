@@ -4,7 +4,7 @@ use mathlib.Core.Bool.{Bool, true, false, _&&_, not, cond}
 use mathlib.Core.List.{List, [], _∷_, _++_}
 use lib.Dec.{eqb}
 use lib.ListN.{getD, replicate}
-use Rattle.base.specs.Parts.{part}
+use Rattle.base.specs.Parts.{listed}
 use Rattle.address.specs.Places.{eepromCell, description, atype, avers, fvers}
 use Rattle.sum.specs.Sum.{firmwareSum}
 use Rattle.rules.specs.declared.Mode.{Mode}
@@ -14,7 +14,7 @@ use Rattle.rules.specs.declared.Answer.{Answer}
 
 -- a reply of this type with these eight data bytes
 abbrev pub replyOf : Node → ℕ → List ℕ → List ℕ
-replyOf n t d = t / 16 ∷ (t % 16 * 16 + 1) ∷ n .own .0 ∷ n .group .0 ∷ d
+replyOf n t d = t / 16 ∷ (t % 16 * 16 + 1) ∷ n .own .0 ∷ n .group .0 ∷ listed d 0 8
 
 -- 0x100: "FF FF 03 04 FF FF FF FF"
 abbrev pub enteredData : List ℕ
@@ -51,7 +51,7 @@ firmwareReply n t flash =
 
 -- 0x10D, 0x10E: "two frames, description 0 to 7 then 8 to 15"
 abbrev pub descriptionData : ℕ → List ℕ → List ℕ
-descriptionData i eeprom = part eeprom (eepromCell description + i) 8
+descriptionData i eeprom = listed eeprom (eepromCell description + i) 8
 
 -- 0x10F, 0x111: "DEVID1 DEVID2 then six FF"
 abbrev pub deviceData : Node → List ℕ

@@ -4,6 +4,7 @@ use mathlib.Core.Bool.{Bool, true, false, _&&_, _||_, not, cond}
 use mathlib.Core.List.{List}
 use lib.Dec.{eqb}
 use lib.ListN.{getD}
+use Rattle.base.specs.Parts.{listed}
 use Rattle.address.specs.Rule.{ruled, isLegal}
 use Rattle.address.specs.declared.Address.{Address}
 use Rattle.address.specs.declared.Address.the-variants.{Flash, Eeprom}
@@ -27,6 +28,9 @@ use Rattle.rules.specs.declared.Action.the-variants.{Refuse, Unstage, En
 -- D0 to D7 of a frame
 abbrev pub D : ℕ → List ℕ → ℕ
 D i f = getD f (4 + i) 0
+
+abbrev pub dataIn : List ℕ → List ℕ
+dataIn f = listed f 4 8
 
 -- two numbers are the node's own
 abbrev pub areOwn : Node → ℕ → ℕ → Bool

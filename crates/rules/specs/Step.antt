@@ -6,7 +6,7 @@ use lib.ListN.{set}
 use Rattle.address.specs.Places.{full, eepromCell, bootfl}
 use Rattle.address.specs.declared.Address.{Address}
 use Rattle.address.specs.declared.Address.the-variants.{Flash, Eeprom}
-use Rattle.frames.specs.Frame.{typeOf, dataOf}
+use Rattle.frames.specs.Frame.{typeOf}
 use Rattle.cells.specs.Memory.{flashWritten, flashErased, eepromWritten}
 use Rattle.show.specs.Shown.{shown}
 use Rattle.rules.specs.declared.Staged.the-variants.{Nothing}
@@ -16,6 +16,7 @@ use Rattle.rules.specs.declared.Action.{Action}
 use Rattle.rules.specs.declared.Action.the-variants.{Refuse, Unstage, Enter, Wait, Hardware, Firmware, Describe, Device, Leave, Stage, Show, Put, Clear}
 use Rattle.rules.specs.declared.Answer.{Answer}
 use Rattle.rules.specs.Record.{withMode, tidied}
+use Rattle.rules.specs.Requests.{dataIn}
 use Rattle.rules.specs.Outcomes.{Row, row, frameRows, decided}
 use Rattle.rules.specs.Replies.{replyOf, enteredData, hardwareData, firmwareReply, descriptionData, deviceData, quiet, one, two}
 
@@ -63,10 +64,10 @@ acted n Describe f flash eeprom =
     after (two n (replyOf n (typeOf f) (descriptionData 0 eeprom)) (replyOf n (typeOf f) (descriptionData 8 eeprom))) flash eeprom
 acted n Device f flash eeprom = after (one n (replyOf n (typeOf f) (deviceData n))) flash eeprom
 acted n Leave f flash eeprom = after (quiet 0 (withMode n Waiting)) flash (bootflSet eeprom 0x00)
-acted n (Stage s) f flash eeprom = after (one (withMode n (Programming s)) (replyOf n 0x030 (dataOf f))) flash eeprom
+acted n (Stage s) f flash eeprom = after (one (withMode n (Programming s)) (replyOf n 0x030 (dataIn f))) flash eeprom
 acted n (Show a) f flash eeprom = shows n (numberOf a) flash eeprom
 acted n (Put a) f flash eeprom =
-    shows n (numberOf a) (flashAfter a (dataOf f) flash) (eepromAfter a (dataOf f) eeprom)
+    shows n (numberOf a) (flashAfter a (dataIn f) flash) (eepromAfter a (dataIn f) eeprom)
 acted n (Clear a) f flash eeprom = shows n (a .0) (flashErased flash (a .0)) eeprom
 
 -- a frame to a tidied node over full memories

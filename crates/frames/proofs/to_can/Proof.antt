@@ -11,7 +11,7 @@ use borrow.Author.Tests.{ne-eqb}
 use Rattle.frames.specs.declared.Identified.{Identified}
 use Rattle.frames.specs.Frame.{identifierOf, upperFlags}
 use Rattle.frames.specs.Numbers.{identifiedOf}
-use Rattle.frames.proofs.Done.{to-can-done, output-done, output-kept}
+use Rattle.frames.proofs.Done.{to-can-done}
 use borrow.Author.Needs.{needs}
 use Rattle.frames.proofs.to_can.Statement.{statement}
 use Rattle.frames.proofs.to_can.Tie as tie
@@ -59,13 +59,13 @@ returns c =
     let h = done t in
     let e : take (length f - 4) (drop 4 f) ≡ drop 4 f = take-all (length f - 4) (drop 4 f) (simp length-drop (omega arith)) in (
       identified _ _ _ f (t .before .to-can-number .ensures) (t .if1 .taken) (c .identifier-of .ensures),
-      rw (output-done _ _ _ (t .if1 .taken), k .copy .ensures, e),
+      rw (t .if1 .taken) (k .copy .ensures ∙ e),
     )
 
 returns-2 : tie.Need-returns-2
 returns-2 c =
     let f = c .before .before .before .before .args .frame .now in
-    (unidentified _ _ f (c .before .to-can-number .ensures) (c .if1 .left), rw (output-kept _ _ _ (c .if1 .left)))
+    (unidentified _ _ f (c .before .to-can-number .ensures) (c .if1 .left), rw (ne-eqb _ 0 (c .if1 .left)))
 
 pub to-can-spec : {M : Type 1} → statement M
 to-can-spec =

@@ -5,10 +5,10 @@ use mathlib.Core.List.{List, _++_, append-nil}
 use Prim.Native.Nat.{ℕ, _-_}
 use native.Mathlib.Omega.{arith}
 use lib.ListN.{length, take, drop, length-take, length-drop, drop-of-length-le}
-use borrow.Author.Tests.{leb-true}
+use borrow.Author.Tests.{leb-true, ne-eqb}
 use mathlib.Core.Bool.{true}
 use Rattle.frames.specs.Frame.{headOf, hapcanOf, legalIdentifier}
-use Rattle.frames.proofs.Done.{to-hapcan-done, output-done, output-kept}
+use Rattle.frames.proofs.Done.{to-hapcan-done}
 use borrow.Author.Needs.{needs}
 use Rattle.frames.proofs.to_hapcan.Statement.{statement}
 use Rattle.frames.proofs.to_hapcan.Tie as tie
@@ -53,10 +53,10 @@ returns c =
     let t = k .before .before in
     let a = t .before .before .before .before .args in
     let e = laid (a .identifier) (a .frame .now) (a .«data» .now) _ _ (k .put-head .ensures) (c .before .before .copy .ensures) in
-    (t .before .to-hapcan-number .ensures, rw (output-done _ _ _ (t .if1 .taken), e))
+    (t .before .to-hapcan-number .ensures, rw (t .if1 .taken) e)
 
 returns-2 : tie.Need-returns-2
-returns-2 c = (c .before .to-hapcan-number .ensures, rw (output-kept _ _ _ (c .if1 .left)))
+returns-2 c = (c .before .to-hapcan-number .ensures, rw (ne-eqb _ 0 (c .if1 .left)))
 
 pub to-hapcan-spec : {M : Type 1} → statement M
 to-hapcan-spec =

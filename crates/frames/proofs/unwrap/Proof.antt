@@ -4,8 +4,9 @@ use mathlib.Core.Path.{_≡_, _∙_, sym}
 use mathlib.Core.Bool.{true}
 use native.Mathlib.Omega.{arith}
 use lib.ListN.{length, length-take, length-drop}
+use borrow.Author.Tests.{ne-eqb}
 use Rattle.frames.specs.Wrapping.{rightlyWrapped}
-use Rattle.frames.proofs.Done.{unwrap-done, output-done, output-kept}
+use Rattle.frames.proofs.Done.{unwrap-done}
 use borrow.Author.Needs.{needs}
 use Rattle.frames.proofs.unwrap.Statement.{statement}
 use Rattle.frames.proofs.unwrap.Tie as tie
@@ -37,10 +38,10 @@ same-length c = search needs
 returns : tie.Need-returns
 returns c =
     let t = c .before .before .before .before .before in
-    (t .before .unwrap-number .ensures, rw (output-done _ _ _ (t .if1 .taken), c .before .before .copy .ensures))
+    (t .before .unwrap-number .ensures, rw (t .if1 .taken) (c .before .before .copy .ensures))
 
 returns-2 : tie.Need-returns-2
-returns-2 c = (c .before .unwrap-number .ensures, rw (output-kept _ _ _ (c .if1 .left)))
+returns-2 c = (c .before .unwrap-number .ensures, rw (ne-eqb _ 0 (c .if1 .left)))
 
 pub unwrap-spec : {M : Type 1} → statement M
 unwrap-spec =

@@ -47,7 +47,7 @@ cast-frame-4 : tie.Need-cast-frame-4
 cast-frame-4 c = search needs
 
 slice-write-frame-4 : tie.Need-slice-write-frame-4
-slice-write-frame-4 c = search needs
+slice-write-frame-4 c = simp length-set (omega arith)
 
 same-length : tie.Need-same-length
 same-length c = search needs

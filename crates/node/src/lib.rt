@@ -1,0 +1,93 @@
+// The node: a fresh one, restart, a CAN frame and a UART byte. Each call takes any record, which it tidies, and lent memories of any
+// length; it asks nothing of its caller. The answer has the number of document 01, the replies and the node.
+mod acting;
+mod answers;
+
+ghost use mathlib.Core.Path.{_≡_};
+ghost use Rattle.rules.specs.Record.{freshNode};
+ghost use Rattle.rules.specs.Restart.{nodeAfter, modeAfter, restartStep};
+ghost use Rattle.rules.specs.Step.{after, canStep};
+use address::{Group, Module, BOOTFL, EEPROM_CELLS, EEPROM_FIRST, FLASH_CELLS, GROUP, MODULE};
+use rules::{Answer, Mode, Node, Pin, Restarted, Staged};
+
+// A fresh node with these six fixed bytes: own numbers 0, nothing held, pin CAN only, waiting for restart.
+pub fn fresh(fixed: [u8; 6]) -> Node
+    ensures { λ r. ⌜ r ≡ freshNode fixed ⌝ }
+{
+    Node {
+        pin: Pin::CanOnly,
+        fixed,
+        own: Module(0),
+        group: Group(0),
+        held: [0; 15],
+        count: 0,
+        mode: Mode::Waiting,
+    }
+}
+
+// The mode that a restart reaches.
+fn mode_after(passed: bool, flash: &[u8], eeprom: &[u8]) -> Mode
+    ensures { λ r. ⌜ r ≡ modeAfter passed (now (flash .entry)) (now (eeprom .entry)) ⌝ }
+{
+    if passed {
+        let at = (BOOTFL.0 - EEPROM_FIRST) as usize;
+        let flag = base::byte_at(eeprom, at);
+        if flag == 0xFF {
+            return Mode::Programming(Staged::Nothing);
+        }
+        let started = sum::firmware_starts(flash);
+        return Mode::Normal(started);
+    }
+    Mode::Error
+}
+
+// The record after a restart.
+fn node_after(n: Node, pin: Pin, passed: bool, flash: &[u8], eeprom: &[u8]) -> Node
+    ensures { λ r. ⌜ r ≡ nodeAfter n pin passed (now (flash .entry)) (now (eeprom .entry)) ⌝ }
+{
+    let fixed = n.fixed;
+    let module_at = (MODULE.0 - EEPROM_FIRST) as usize;
+    let group_at = (GROUP.0 - EEPROM_FIRST) as usize;
+    let own = Module(base::byte_at(eeprom, module_at));
+    let group = Group(base::byte_at(eeprom, group_at));
+    let mode = mode_after(passed, flash, eeprom);
+    Node {
+        pin,
+        fixed,
+        own,
+        group,
+        held: [0; 15],
+        count: 0,
+        mode,
+    }
+}
+
+// Restart with this pin and the self-test's verdict. 1 where a memory has the wrong length: nothing is taken then, not even the pin.
+pub fn restart(node: Node, pin: Pin, passed: bool, flash: &[u8], eeprom: &[u8]) -> Restarted
+    ensures { λ r. ⌜ r ≡ restartStep node pin passed (now (flash .entry)) (now (eeprom .entry)) ⌝ }
+{
+    if flash.len() != FLASH_CELLS {
+        let n = decide::tidy(node);
+        return Restarted { number: 1, node: n };
+    }
+    if eeprom.len() != EEPROM_CELLS {
+        let n = decide::tidy(node);
+        return Restarted { number: 1, node: n };
+    }
+    let n = node_after(node, pin, passed, flash, eeprom);
+    Restarted { number: 0, node: n }
+}
+
+// A CAN frame, as its 12 HAPCAN bytes.
+pub fn can_frame(node: Node, frame: &[u8], flash: &mut [u8], eeprom: &mut [u8]) -> Answer
+    ensures { λ r. ⌜ after r (now (flash .exit)) (now (eeprom .exit)) ≡ canStep node (now (frame .entry)) (now (flash .entry)) (now (eeprom .entry)) ⌝ }
+{
+    let n = decide::tidy(node);
+    if flash.len() != FLASH_CELLS {
+        return answers::quiet(1, n);
+    }
+    if eeprom.len() != EEPROM_CELLS {
+        return answers::quiet(1, n);
+    }
+    acting::obey(n, frame, flash, eeprom)
+}
