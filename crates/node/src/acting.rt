@@ -6,10 +6,17 @@ ghost use Rattle.address.specs.declared.Address.{Address};
 ghost use Rattle.rules.specs.Step.{after, bootflSet, numberOf, shows, acted, obeyed};
 ghost use Rattle.node.specs.Putting.{putDone};
 ghost use Rattle.show.specs.Shown.{shown};
-use address::{Address, EepromPlace, FlashAddress, BOOTFL, EEPROM_FIRST};
-use rules::{Action, Answer, Mode, Node, Staged};
-
 use super::answers;
+use address::Address;
+use address::BOOTFL;
+use address::EEPROM_FIRST;
+use address::EepromPlace;
+use address::FlashAddress;
+use rules::Action;
+use rules::Answer;
+use rules::Mode;
+use rules::Node;
+use rules::Staged;
 
 // BOOTFL becomes v.
 fn set_bootfl(eeprom: &mut [u8], v: u8)
@@ -77,7 +84,10 @@ fn act(n: Node, a: Action, frame: &[u8], flash: &mut [u8], eeprom: &mut [u8]) ->
 {
     match a {
         Action::Refuse(number) => answers::quiet(number, n),
-        Action::Unstage => answers::quiet(8, answers::with_mode(n, Mode::Programming(Staged::Nothing))),
+        Action::Unstage => answers::quiet(
+            8,
+            answers::with_mode(n, Mode::Programming(Staged::Nothing)),
+        ),
         Action::Enter => {
             set_bootfl(eeprom, 0xFF);
             answers::one(

@@ -6,8 +6,14 @@ ghost use Rattle.frames.specs.Frame.{typeOf};
 ghost use Rattle.rules.specs.Requests.{dataIn};
 ghost use Rattle.rules.specs.Record.{withMode};
 ghost use Rattle.rules.specs.Replies.{replyOf, enteredData, hardwareData, firmwareData, firmwareErrorData, hasStarted, firmwareReply, descriptionData, deviceData, quiet, one, two};
-use address::{ATYPE, AVERS, DESCRIPTION, EEPROM_FIRST, FVERS};
-use rules::{Answer, Mode, Node};
+use address::ATYPE;
+use address::AVERS;
+use address::DESCRIPTION;
+use address::EEPROM_FIRST;
+use address::FVERS;
+use rules::Answer;
+use rules::Mode;
+use rules::Node;
 
 // The record in this mode.
 pub fn with_mode(n: Node, m: Mode) -> Node
@@ -66,7 +72,30 @@ pub fn one(n: Node, t: u16, d: [u8; 8]) -> Answer
     let first = (t / 16) as u8;
     let second = (t % 16 * 16 + 1) as u8;
     let replies = [
-        first, second, n.own.0, n.group.0, d[0], d[1], d[2], d[3], d[4], d[5], d[6], d[7], 0, 0, 0, 0, 0, 0, 0, 0, 0, 0, 0, 0,
+        first,
+        second,
+        n.own.0,
+        n.group.0,
+        d[0],
+        d[1],
+        d[2],
+        d[3],
+        d[4],
+        d[5],
+        d[6],
+        d[7],
+        0,
+        0,
+        0,
+        0,
+        0,
+        0,
+        0,
+        0,
+        0,
+        0,
+        0,
+        0,
     ];
     Answer {
         number: 0,
@@ -86,8 +115,30 @@ pub fn two(n: Node, t: u16, d: [u8; 8], e: [u8; 8]) -> Answer
     let own = n.own.0;
     let group = n.group.0;
     let replies = [
-        first, second, own, group, d[0], d[1], d[2], d[3], d[4], d[5], d[6], d[7], first, second, own, group, e[0], e[1], e[2], e[3], e[4],
-        e[5], e[6], e[7],
+        first,
+        second,
+        own,
+        group,
+        d[0],
+        d[1],
+        d[2],
+        d[3],
+        d[4],
+        d[5],
+        d[6],
+        d[7],
+        first,
+        second,
+        own,
+        group,
+        e[0],
+        e[1],
+        e[2],
+        e[3],
+        e[4],
+        e[5],
+        e[6],
+        e[7],
     ];
     Answer {
         number: 0,

@@ -2,13 +2,28 @@
 // length; it asks nothing of its caller. The answer has the number of document 01, the replies and the node.
 mod acting;
 mod answers;
+mod port;
 
 ghost use mathlib.Core.Path.{_≡_};
 ghost use Rattle.rules.specs.Record.{freshNode};
 ghost use Rattle.rules.specs.Restart.{nodeAfter, modeAfter, restartStep};
 ghost use Rattle.rules.specs.Step.{after, canStep};
-use address::{Group, Module, BOOTFL, EEPROM_CELLS, EEPROM_FIRST, FLASH_CELLS, GROUP, MODULE};
-use rules::{Answer, Mode, Node, Pin, Restarted, Staged};
+ghost use Rattle.rules.specs.Uart.{uartAfter, uartStep};
+use address::BOOTFL;
+use address::EEPROM_CELLS;
+use address::EEPROM_FIRST;
+use address::FLASH_CELLS;
+use address::GROUP;
+use address::Group;
+use address::MODULE;
+use address::Module;
+use rules::Answer;
+use rules::Mode;
+use rules::Node;
+use rules::Pin;
+use rules::Restarted;
+use rules::Staged;
+use rules::UartAnswer;
 
 // A fresh node with these six fixed bytes: own numbers 0, nothing held, pin CAN only, waiting for restart.
 pub fn fresh(fixed: [u8; 6]) -> Node
@@ -90,4 +105,18 @@ pub fn can_frame(node: Node, frame: &[u8], flash: &mut [u8], eeprom: &mut [u8]) 
         return answers::quiet(1, n);
     }
     acting::obey(n, frame, flash, eeprom)
+}
+
+// A byte from UART.
+pub fn uart_byte(node: Node, byte: u8, flash: &mut [u8], eeprom: &mut [u8]) -> UartAnswer
+    ensures { λ r. ⌜ uartAfter r (now (flash .exit)) (now (eeprom .exit)) ≡ uartStep node byte (now (flash .entry)) (now (eeprom .entry)) ⌝ }
+{
+    let n = decide::tidy(node);
+    if flash.len() != FLASH_CELLS {
+        return port::silent(1, n);
+    }
+    if eeprom.len() != EEPROM_CELLS {
+        return port::silent(1, n);
+    }
+    port::listen(n, byte, flash, eeprom)
 }

@@ -54,9 +54,12 @@ abbrev pub onUart : Answer → UartAnswer
 onUart r =
     record { number = r .number; count = r .count; replies = wrappedReplies (r .count) (r .replies); node = r .node }
 
+-- no reply
+abbrev pub silentAnswer : ℕ → Node → UartAnswer
+silentAnswer number n = record { number = number; count = 0; replies = replicate 30 0; node = n }
+
 abbrev pub silent : ℕ → Node → List ℕ → List ℕ → UartStep
-silent number n flash eeprom =
-    uartAfter (record { number = number; count = 0; replies = replicate 30 0; node = n }) flash eeprom
+silent number n flash eeprom = uartAfter (silentAnswer number n) flash eeprom
 
 abbrev pub viaUart : Step → UartStep
 viaUart s = uartAfter (onUart (s .answer)) (s .flash) (s .eeprom)

@@ -1,47 +1,40 @@
+-- `node::can_frame` meets its contract: 1 for a wrong length, else the tidied node obeys.
+-- Assumes nothing.
+use borrow.Author.Tests.{eq-eqb, ne-eqb}
+use Rattle.rules.specs.Step.{canStep}
 use borrow.Author.Needs.{needs}
 use Rattle.node.proofs.can_frame.Statement.{statement}
 use Rattle.node.proofs.can_frame.Tie as tie
-use Rattle.node.proofs.can_frame.Reads as reads
-use Rattle.node.proofs.can_frame.Lts as lts
-use Rattle.decide.proofs.tidy.Reads as tidy-reads
-use Rattle.node.proofs.acting.obey.Reads as obey-reads
-use Rattle.node.proofs.answers.quiet.Reads as quiet-reads
 
--- src/lib.rt:85:9
 tidy-requires : tie.Need-tidy-requires
 tidy-requires c κs = search needs
 
--- src/lib.rt:87:9
 quiet-requires : tie.Need-quiet-requires
 quiet-requires c κs = search needs
 
--- src/lib.rt:87:9
 returns : tie.Need-returns
-returns c = ?
+unfolding canStep
+returns c = simp (ne-eqb _ 65536 (c .before .if1 .taken), c .quiet .ensures, c .before .before .tidy .ensures)
 
--- src/lib.rt:90:9
 quiet-requires-2 : tie.Need-quiet-requires-2
 quiet-requires-2 c κs = search needs
 
--- src/lib.rt:90:9
 returns-2 : tie.Need-returns-2
-returns-2 c = ?
+unfolding canStep
+returns-2 c = simp (eq-eqb _ 65536 (c .before .before .if1 .left), ne-eqb _ 1024 (c .before .if2 .taken), c .quiet2 .ensures, c .before .before .before .tidy .ensures)
 
--- src/lib.rt:92:5
 obey-requires : tie.Need-obey-requires
 obey-requires c κs = search needs
 
--- src/lib.rt:82:1
 same-length : tie.Need-same-length
 same-length c = search needs
 
--- src/lib.rt:82:1
 same-length-2 : tie.Need-same-length-2
 same-length-2 c = search needs
 
--- src/lib.rt:82:1
 returns-3 : tie.Need-returns-3
-returns-3 c = ?
+unfolding canStep
+returns-3 c = simp (eq-eqb _ 65536 (c .before .before .before .before .before .before .before .before .if1 .left), eq-eqb _ 1024 (c .before .before .before .before .before .before .before .if2 .left)) (rw (c .before .before .before .before .before .before .before .before .before .tidy .ensures) at (c .before .before .before .before .obey .ensures))
 
 pub can-frame-spec : {M : Type 1} → statement M
 can-frame-spec =

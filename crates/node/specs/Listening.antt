@@ -1,0 +1,45 @@
+-- The UART rule as the code has it, on the record's own fields; proofs/Listening.antt shows that of a tidied record it is the rule.
+use Prim.Native.Nat.{ℕ, _+_}
+use mathlib.Core.Bool.{cond}
+use mathlib.Core.List.{List, []}
+use lib.Dec.{eqb, ltb}
+use lib.ListN.{set, replicate}
+use Rattle.frames.specs.Wrapping.{innerOf}
+use Rattle.frames.specs.Numbers.{unwrapNumber}
+use Rattle.rules.specs.declared.Node.{Node}
+use Rattle.rules.specs.Record.{holding}
+use Rattle.rules.specs.Outcomes.{isDeaf}
+use Rattle.rules.specs.Step.{obeyed}
+use Rattle.rules.specs.Uart.{UartStep, uartAfter, silent, viaUart, isClosed}
+
+-- one byte more behind those that are held
+abbrev pub heldWith : Node → ℕ → Node
+heldWith n b =
+    record {
+      pin = n .pin;
+      fixed = n .fixed;
+      own = n .own;
+      group = n .group;
+      held = set (n .held) (n .count) b;
+      count = n .count + 1;
+      mode = n .mode;
+    }
+
+-- the fifteen bytes, of which the last has just come
+abbrev pub fifteen : Node → ℕ → List ℕ
+fifteen n b = set (n .held) 14 b
+
+unfoldable pub wholeFrame : Node → ℕ → List ℕ → List ℕ → UartStep
+wholeFrame n b flash eeprom =
+    cond (eqb (unwrapNumber (fifteen n b) 12) 0) (viaUart (obeyed (holding n []) (innerOf (fifteen n b)) flash eeprom))
+    (silent 11 (holding n []) flash eeprom)
+
+unfoldable pub heard : Node → ℕ → List ℕ → List ℕ → UartStep
+heard n b flash eeprom =
+    cond (eqb (n .count) 0) (cond (eqb b 0xAA) (silent 10 (heldWith n b) flash eeprom) (silent 10 n flash eeprom))
+    (cond (ltb (n .count) 14) (silent 10 (heldWith n b) flash eeprom) (wholeFrame n b flash eeprom))
+
+unfoldable pub listened : Node → ℕ → List ℕ → List ℕ → UartStep
+listened n b flash eeprom =
+    cond (isClosed (n .pin)) (silent 2 n flash eeprom)
+    (cond (isDeaf (n .mode)) (silent 3 n flash eeprom) (heard n b flash eeprom))

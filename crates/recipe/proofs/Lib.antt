@@ -1,0 +1,10 @@
+pub mod Inside
+pub mod Order
+pub mod Steps
+pub mod Answers
+pub mod OnlyLegal
+pub mod Printing
+pub mod Accepts
+pub mod Framing
+pub mod Refusals
+pub mod Plainly

@@ -1,0 +1,29 @@
+-- The plain reading of a recipe over two memories, by its items alone. Document 01: "Read plainly, Block and Row set their cells in
+-- order and Leave sets BOOTFL to 0x00."
+use Prim.Native.Nat.{ℕ}
+use mathlib.Core.List.{List, [], _∷_}
+use lib.ListN.{set}
+use lib.Seq.{sets}
+use Rattle.address.specs.Places.{eepromCell, bootfl}
+use Rattle.recipe.specs.Items.{Item, block, row, Recipe}
+
+pub record Memories : Type 0 where
+  pub flash : List ℕ
+  pub eeprom : List ℕ
+
+-- "Block and Row set their cells"
+abbrev pub plainItem : Item → Memories → Memories
+plainItem (block address cells) m = record { flash = sets (m .flash) address cells; eeprom = m .eeprom }
+plainItem (row address cells) m = record { flash = m .flash; eeprom = sets (m .eeprom) (eepromCell address) cells }
+
+-- "in order"
+unfoldable pub plainItems : List Item → Memories → Memories
+plainItems [] m = m
+plainItems (i ∷ is) m = plainItems is (plainItem i m)
+
+-- "Leave sets BOOTFL to 0x00"
+abbrev pub plainLeave : Memories → Memories
+plainLeave m = record { flash = m .flash; eeprom = set (m .eeprom) (eepromCell bootfl) 0x00 }
+
+unfoldable pub plainly : Recipe → Memories → Memories
+plainly r m = plainLeave (plainItems (r .items) m)

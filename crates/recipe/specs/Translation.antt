@@ -1,0 +1,37 @@
+-- What the translator answers, and the output after it. Document 01, "The recipe".
+use Prim.Native.Nat.{ℕ, _*_}
+use mathlib.Core.Bool.{true, false, cond}
+use mathlib.Core.List.{List, _++_}
+use lib.Dec.{ltb}
+use lib.ListN.{length, drop}
+use Rattle.recipe.specs.declared.Translated.{Translated}
+use Rattle.recipe.specs.declared.Translated.the-variants.{Frames, Refused}
+use Rattle.recipe.specs.Frames.{framesOf, joined, frameCount}
+use Rattle.recipe.specs.Reading.{Stop, atEnd, fault, reading, recipeOf}
+
+-- "Refusals name the item's starting byte"; "At the end: 20 no Leave yet, place the length (empty input too)"; else "success reports
+-- the frame count"
+abbrev pub answerAt : Stop → ℕ → ℕ → Translated
+answerAt (fault number place) size count = Refused number place
+answerAt (atEnd false) size count = Refused 20 size
+answerAt (atEnd true) size count = Frames count
+
+-- "Last: 26 output shorter than needed, place 0", where the output has `room` bytes
+abbrev pub lastly : Translated → ℕ → Translated
+lastly (Refused number place) room = Refused number place
+lastly (Frames count) room = cond (ltb room (12 * count)) (Refused 26 0) (Frames count)
+
+-- the answer to a recipe but for the output's length
+unfoldable pub checked : List ℕ → Translated
+checked input = answerAt (reading input .stop) (length input) (frameCount (recipeOf input))
+
+unfoldable pub translated : List ℕ → ℕ → Translated
+translated input room = lastly (checked input) room
+
+-- the output after an answer: "output untouched", or the frames and "bytes behind the last frame stay"
+abbrev pub outputAfter : Translated → List ℕ → List ℕ → List ℕ
+outputAfter (Refused number place) input output = output
+outputAfter (Frames count) input output = joined (framesOf (recipeOf input)) ++ drop (12 * count) output
+
+unfoldable pub translatedOutput : List ℕ → List ℕ → List ℕ
+translatedOutput input output = outputAfter (translated input (length output)) input output
