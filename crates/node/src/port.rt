@@ -102,24 +102,43 @@ fn wrapped(reply: [u8; 12]) -> [u8; 15]
     w
 }
 
-// Twelve of an answer's reply bytes.
-fn twelve(b: [u8; 24], i: usize) -> [u8; 12]
-    requires { ⌜ i ≤ 12 ⌝ }
-    ensures { λ r. ⌜ r ≡ listed b i 12 ⌝ }
+// The first twelve of an answer's reply bytes.
+fn first_reply(b: [u8; 24]) -> [u8; 12]
+    ensures { λ r. ⌜ r ≡ listed b 0 12 ⌝ }
 {
     [
-        b[i],
-        b[i + 1],
-        b[i + 2],
-        b[i + 3],
-        b[i + 4],
-        b[i + 5],
-        b[i + 6],
-        b[i + 7],
-        b[i + 8],
-        b[i + 9],
-        b[i + 10],
-        b[i + 11],
+        b[0],
+        b[1],
+        b[2],
+        b[3],
+        b[4],
+        b[5],
+        b[6],
+        b[7],
+        b[8],
+        b[9],
+        b[10],
+        b[11],
+    ]
+}
+
+// The last twelve.
+fn second_reply(b: [u8; 24]) -> [u8; 12]
+    ensures { λ r. ⌜ r ≡ listed b 12 12 ⌝ }
+{
+    [
+        b[12],
+        b[13],
+        b[14],
+        b[15],
+        b[16],
+        b[17],
+        b[18],
+        b[19],
+        b[20],
+        b[21],
+        b[22],
+        b[23],
     ]
 }
 
@@ -168,11 +187,11 @@ fn wrapped_replies(count: u8, replies: [u8; 24]) -> [u8; 30]
     if count == 0 {
         return [0; 30];
     }
-    let first = wrapped(twelve(replies, 0));
+    let first = wrapped(first_reply(replies));
     if count == 1 {
         return joined(first, [0; 15]);
     }
-    let second = wrapped(twelve(replies, 12));
+    let second = wrapped(second_reply(replies));
     joined(first, second)
 }
 

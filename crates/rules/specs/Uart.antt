@@ -3,8 +3,8 @@ use Prim.Native.Nat.{ℕ}
 use mathlib.Core.Bool.{Bool, true, false, not, cond}
 use mathlib.Core.List.{List, [], _∷_, _++_}
 use lib.Dec.{eqb, ltb}
-use lib.ListN.{length, take, drop, replicate}
-use Rattle.base.specs.Parts.{part}
+use lib.ListN.{length, replicate}
+use Rattle.base.specs.Parts.{listed}
 use Rattle.address.specs.Places.{full}
 use Rattle.frames.specs.Wrapping.{wrappedOf, innerOf, rightlyWrapped}
 use Rattle.rules.specs.declared.Pin.{Pin}
@@ -47,8 +47,8 @@ isClosed CanAndUart = false
 abbrev pub wrappedReplies : ℕ → List ℕ → List ℕ
 wrappedReplies count replies =
     cond (eqb count 0) (replicate 30 0)
-    (cond (eqb count 1) (wrappedOf (take 12 replies) ++ replicate 15 0)
-    (wrappedOf (take 12 replies) ++ wrappedOf (drop 12 replies)))
+    (cond (eqb count 1) (wrappedOf (listed replies 0 12) ++ replicate 15 0)
+    (wrappedOf (listed replies 0 12) ++ wrappedOf (listed replies 12 12)))
 
 abbrev pub onUart : Answer → UartAnswer
 onUart r =

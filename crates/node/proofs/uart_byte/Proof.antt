@@ -1,47 +1,46 @@
+-- `node::uart_byte` meets its contract: 1 for a wrong length, else the tidied node listens.
+-- Assumes nothing.
+use mathlib.Core.Path.{_∙_}
+use borrow.Author.Tests.{eq-eqb, ne-eqb}
+use Rattle.rules.specs.Record.{tidied}
+use Rattle.rules.specs.Uart.{uartStep}
+use Rattle.node.proofs.Listening.{listened-right, tidied-few}
 use borrow.Author.Needs.{needs}
 use Rattle.node.proofs.uart_byte.Statement.{statement}
 use Rattle.node.proofs.uart_byte.Tie as tie
-use Rattle.node.proofs.uart_byte.Reads as reads
-use Rattle.node.proofs.uart_byte.Lts as lts
-use Rattle.decide.proofs.tidy.Reads as tidy-reads
-use Rattle.node.proofs.port.listen.Reads as listen-reads
-use Rattle.node.proofs.port.silent.Reads as silent-reads
 
--- src/lib.rt:114:9
 tidy-requires : tie.Need-tidy-requires
 tidy-requires c κs = search needs
 
--- src/lib.rt:116:9
 silent-requires : tie.Need-silent-requires
 silent-requires c κs = search needs
 
--- src/lib.rt:116:9
 returns : tie.Need-returns
-returns c = ?
+unfolding uartStep
+returns c = simp (ne-eqb _ 65536 (c .before .if1 .taken), c .silent .ensures, c .before .before .tidy .ensures)
 
--- src/lib.rt:119:9
 silent-requires-2 : tie.Need-silent-requires-2
 silent-requires-2 c κs = search needs
 
--- src/lib.rt:119:9
 returns-2 : tie.Need-returns-2
-returns-2 c = ?
+unfolding uartStep
+returns-2 c = simp (eq-eqb _ 65536 (c .before .before .if1 .left), ne-eqb _ 1024 (c .before .if2 .taken), c .silent2 .ensures, c .before .before .before .tidy .ensures)
 
--- src/lib.rt:121:5
 listen-requires : tie.Need-listen-requires
-listen-requires c κs = ?
+listen-requires c κs = rw (c .before .before .before .before .tidy .ensures) (tidied-few (c .before .before .before .before .before .before .before .args .node))
 
--- src/lib.rt:111:1
 same-length : tie.Need-same-length
 same-length c = search needs
 
--- src/lib.rt:111:1
 same-length-2 : tie.Need-same-length-2
 same-length-2 c = search needs
 
--- src/lib.rt:111:1
 returns-3 : tie.Need-returns-3
-returns-3 c = ?
+unfolding uartStep tidied
+returns-3 c =
+    simp (eq-eqb _ 65536 (c .before .before .before .before .before .before .before .before .if1 .left), eq-eqb _ 1024 (c .before .before .before .before .before .before .before .if2 .left))
+    (rw (c .before .before .before .before .before .before .before .before .before .tidy .ensures) at (c .before .before .before .before .listen .ensures)
+    ∙ listened-right (c .before .before .before .before .before .before .before .before .before .before .before .before .args .node) (c .before .before .before .before .before .before .before .before .before .before .before .before .args .byte) (c .before .before .before .before .before .before .before .before .before .before .before .before .args .flash .now) (c .before .before .before .before .before .before .before .before .before .before .before .before .args .eeprom .now))
 
 pub uart-byte-spec : {M : Type 1} → statement M
 uart-byte-spec =

@@ -1,69 +1,61 @@
+-- `node::port::complete` meets its contract: unwrapped with 0 the frame is obeyed by the emptied node, else nothing stays held.
+-- Assumes nothing.
+use mathlib.Core.Path.{_∙_, ap}
+use mathlib.Core.List.{[]}
+use Rattle.rules.specs.Uart.{viaUart}
+use Rattle.node.proofs.Listening.{whole-done, whole-bad}
 use borrow.Author.Needs.{needs}
 use Rattle.node.proofs.port.complete.Statement.{statement}
 use Rattle.node.proofs.port.complete.Tie as tie
-use Rattle.node.proofs.port.complete.Reads as reads
-use Rattle.node.proofs.port.complete.Lts as lts
-use Rattle.frames.proofs.unwrap.Reads as unwrap-reads
-use Rattle.node.proofs.acting.obey.Reads as obey-reads
-use Rattle.node.proofs.port.emptied.Reads as emptied-reads
-use Rattle.node.proofs.port.on_uart.Reads as on-uart-reads
-use Rattle.node.proofs.port.silent.Reads as silent-reads
 
--- src/port.rt:199:5
 array-write-whole : tie.Need-array-write-whole
 array-write-whole c = search needs
 
--- src/port.rt:201:33
 slice-aggregate-unwrap : tie.Need-slice-aggregate-unwrap
 slice-aggregate-unwrap c = search needs
 
--- src/port.rt:201:41
 slice-aggregate-unwrap-2 : tie.Need-slice-aggregate-unwrap-2
 slice-aggregate-unwrap-2 c = search needs
 
--- src/port.rt:201:9
 unwrap-requires : tie.Need-unwrap-requires
 unwrap-requires c κs = search needs
 
--- src/port.rt:203:30
 emptied-requires : tie.Need-emptied-requires
 emptied-requires c κs = search needs
 
--- src/port.rt:203:42
 slice-aggregate-obey : tie.Need-slice-aggregate-obey
 slice-aggregate-obey c = search needs
 
--- src/port.rt:203:13
 obey-requires : tie.Need-obey-requires
 obey-requires c κs = search needs
 
--- src/port.rt:204:9
 on-uart-requires : tie.Need-on-uart-requires
 on-uart-requires c κs = search needs
 
--- src/port.rt:204:9
 same-length : tie.Need-same-length
 same-length c = search needs
 
--- src/port.rt:204:9
 same-length-2 : tie.Need-same-length-2
 same-length-2 c = search needs
 
--- src/port.rt:204:9
 returns : tie.Need-returns
-returns c = ?
+returns c =
+    rw (c .on-uart .ensures)
+    (ap viaUart (rw (c .before .before .before .before .before .before .before .before .before .emptied .ensures) at (c .before .before .before .before .before .obey .ensures))
+    ∙ whole-done (c .before .before .before .before .before .before .before .before .before .before .before .before .before .before .before .before .before .before .args .n) (c .before .before .before .before .before .before .before .before .before .before .before .before .before .before .before .before .before .before .args .byte) (c .before .before .before .before .before .before .before .before .before .before .before .before .unwrap .result) _ (c .before .before .before .before .before .before .before .before .before .before .before .before .before .before .before .before .before .before .args .flash .now) (c .before .before .before .before .before .before .before .before .before .before .before .before .before .before .before .before .before .before .args .eeprom .now) (c .before .before .before .before .before .before .before .before .before .before .before .before .unwrap .ensures .0)
+    (c .before .before .before .before .before .before .before .before .before .before .before .before .unwrap .ensures .1) (c .before .before .before .before .before .before .before .before .before .before .if1 .taken))
 
--- src/port.rt:206:16
 emptied-requires-2 : tie.Need-emptied-requires-2
 emptied-requires-2 c κs = search needs
 
--- src/port.rt:206:5
 silent-requires : tie.Need-silent-requires
 silent-requires c κs = search needs
 
--- src/port.rt:195:1
 returns-2 : tie.Need-returns-2
-returns-2 c = ?
+returns-2 c =
+    rw (c .silent .ensures, c .before .emptied2 .ensures)
+    (whole-bad (c .before .before .before .before .before .before .before .before .before .before .args .n) (c .before .before .before .before .before .before .before .before .before .before .args .byte) (c .before .before .before .before .unwrap .result) [] (c .before .before .before .before .before .before .before .before .before .before .args .flash .now) (c .before .before .before .before .before .before .before .before .before .before .args .eeprom .now) (c .before .before .before .before .unwrap .ensures .0)
+    (c .before .before .if1 .left))
 
 pub complete-spec : {M : Type 1} → statement M
 complete-spec =

@@ -1,25 +1,29 @@
+-- `node::port::wrapped` meets its contract: 12 bytes are wrapped with number 0.
+-- Assumes nothing.
+use mathlib.Core.Path.{_≡_, _∙_, refl}
+use borrow.Author.Tests.{eq-eqb}
+use lib.ListN.{length}
+use Rattle.frames.specs.Numbers.{wrapNumber}
+use Rattle.frames.proofs.Done.{done-wrap}
+use mathlib.Core.Path.{_≡_, refl}
 use borrow.Author.Needs.{needs}
 use Rattle.node.proofs.port.wrapped.Statement.{statement}
 use Rattle.node.proofs.port.wrapped.Tie as tie
-use Rattle.node.proofs.port.wrapped.Reads as reads
-use Rattle.node.proofs.port.wrapped.Lts as lts
-use Rattle.frames.proofs.wrap.Reads as wrap-reads
 
--- src/port.rt:101:18
 slice-aggregate-wrap : tie.Need-slice-aggregate-wrap
 slice-aggregate-wrap c = search needs
 
--- src/port.rt:101:26
 slice-aggregate-wrap-2 : tie.Need-slice-aggregate-wrap-2
 slice-aggregate-wrap-2 c = search needs
 
--- src/port.rt:101:5
 wrap-requires : tie.Need-wrap-requires
 wrap-requires c κs = search needs
 
--- src/port.rt:97:1
 returns : tie.Need-returns
-returns c = ?
+returns c =
+    let l : length (c .before .before .before .before .args .t1) ≡ 12 = search needs in
+    let z : wrapNumber (c .before .before .before .before .args .t1) 15 ≡ 0 = done-wrap (c .before .before .before .before .args .t1) 15 refl l in
+    c .before .wrap .ensures .1 ∙ simp (eq-eqb (c .before .wrap .result) 0 (c .before .wrap .ensures .0 ∙ z))
 
 pub wrapped-spec : {M : Type 1} → statement M
 wrapped-spec =

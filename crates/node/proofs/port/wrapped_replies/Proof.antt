@@ -1,58 +1,51 @@
+-- `node::port::wrapped_replies` meets its contract: the tests are those of the definition.
+-- Assumes nothing.
+use borrow.Author.Tests.{eq-eqb, ne-eqb}
 use borrow.Author.Needs.{needs}
 use Rattle.node.proofs.port.wrapped_replies.Statement.{statement}
 use Rattle.node.proofs.port.wrapped_replies.Tie as tie
-use Rattle.node.proofs.port.wrapped_replies.Reads as reads
-use Rattle.node.proofs.port.wrapped_replies.Lts as lts
-use Rattle.node.proofs.port.joined.Reads as joined-reads
-use Rattle.node.proofs.port.twelve.Reads as twelve-reads
-use Rattle.node.proofs.port.wrapped.Reads as wrapped-reads
 
--- src/port.rt:169:9
 returns : tie.Need-returns
-returns c = ?
+returns c = simp (eq-eqb _ 0 (c .if1 .taken))
 
--- src/port.rt:171:25
-twelve-requires : tie.Need-twelve-requires
-twelve-requires c κs = search needs
+first-reply-requires : tie.Need-first-reply-requires
+first-reply-requires c κs = search needs
 
--- src/port.rt:171:9
 wrapped-requires : tie.Need-wrapped-requires
 wrapped-requires c κs = search needs
 
--- src/port.rt:173:9
 joined-requires : tie.Need-joined-requires
 joined-requires c κs = search needs
 
--- src/port.rt:173:9
 returns-2 : tie.Need-returns-2
-returns-2 c = ?
+returns-2 c =
+    simp (ne-eqb _ 0 (c .before .before .before .before .if1 .left), eq-eqb _ 1 (c .before .if2 .taken))
+    (rw (c .before .before .wrapped .ensures, c .before .before .before .first-reply .ensures) at (c .joined .ensures))
 
--- src/port.rt:175:26
-twelve-requires-2 : tie.Need-twelve-requires-2
-twelve-requires-2 c κs = search needs
+second-reply-requires : tie.Need-second-reply-requires
+second-reply-requires c κs = search needs
 
--- src/port.rt:175:9
 wrapped-requires-2 : tie.Need-wrapped-requires-2
 wrapped-requires-2 c κs = search needs
 
--- src/port.rt:176:5
 joined-requires-2 : tie.Need-joined-requires-2
 joined-requires-2 c κs = search needs
 
--- src/port.rt:165:1
 returns-3 : tie.Need-returns-3
-returns-3 c = ?
+returns-3 c =
+    simp (ne-eqb _ 0 (c .before .before .before .before .before .before .if1 .left), ne-eqb _ 1 (c .before .before .before .if2 .left))
+    (rw (c .before .before .before .before .wrapped .ensures, c .before .before .before .before .before .first-reply .ensures, c .before .wrapped2 .ensures, c .before .before .second-reply .ensures) at (c .joined2 .ensures))
 
 pub wrapped-replies-spec : {M : Type 1} → statement M
 wrapped-replies-spec =
     tie.close
     (tie.spec
     returns
-    twelve-requires
+    first-reply-requires
     wrapped-requires
     joined-requires
     returns-2
-    twelve-requires-2
+    second-reply-requires
     wrapped-requires-2
     joined-requires-2
     returns-3)
