@@ -1,1 +1,4 @@
 pub mod Tidying
+pub mod Numbers
+pub mod AnswerOne
+pub mod Spoiling

@@ -6,3 +6,4 @@ pub mod Replies
 pub mod Step
 pub mod Restart
 pub mod Uart
+pub mod Refused
