@@ -1,2 +1,3 @@
 pub mod Listening
+pub mod AnswerOne
 pub mod Tight

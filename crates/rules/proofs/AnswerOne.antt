@@ -158,8 +158,10 @@ uart-refused m b flash eeprom =
   where
     t : Node
     t = tidied m
+
     xs : List ℕ
     xs = taken (heldOf (tidied m)) b
+
     go : (x y z : Bool) → isDeaf (tidied m .mode) ≡ z → (i r : Bool)
         → (firstThat (row 1 (not x) ∷ row 2 y ∷ row 3 z ∷ row 10 i ∷ row 11 (not r) ∷ frameRows (tidied m) (innerOf xs)) ≡ 0 → ⊥)
         → cond x
