@@ -56,11 +56,14 @@ fn decide_kind(n: Node, k: Kind, frame: &[u8]) -> Action
 {
     let handled = k.handled;
     let mode = n.mode;
-    if request::handled_here(handled, mode) {
-        let addressing = k.addressing;
-        if request::is_for(addressing, n, frame) {
-            let asks = k.request;
-            return request::asked(asks, mode, frame);
+    let addressing = k.addressing;
+    let asks = k.request;
+    let here = request::handled_here(handled, mode);
+    let ours = request::is_for(addressing, n, frame);
+    let action = request::asked(asks, mode, frame);
+    if here {
+        if ours {
+            return action;
         }
         return Action::Refuse(7);
     }
@@ -72,16 +75,20 @@ pub fn decide(n: Node, frame: &[u8]) -> Action
     ensures { λ r. ⌜ r ≡ decided n (now (frame .entry)) ⌝ }
 {
     let mode = n.mode;
-    if is_deaf(mode) {
+    let deaf = is_deaf(mode);
+    let bad = request::misshapen(frame);
+    let answer = request::is_response(frame);
+    let found = table::look_up(request::type_of(frame));
+    if deaf {
         return Action::Refuse(3);
     }
-    if request::misshapen(frame) {
+    if bad {
         return Action::Refuse(4);
     }
-    if request::is_response(frame) {
+    if answer {
         return Action::Refuse(5);
     }
-    match table::look_up(request::type_of(frame)) {
+    match found {
         Found::Handled(k) => decide_kind(n, k, frame),
         Found::Unhandled => Action::Refuse(6),
     }

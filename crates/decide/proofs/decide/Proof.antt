@@ -9,23 +9,11 @@ use Rattle.decide.proofs.decide.Tie as tie
 is-deaf-requires : tie.Need-is-deaf-requires
 is-deaf-requires c κs = search needs
 
-returns : tie.Need-returns
-unfolding decided
-returns c = simp (← c .before .is-deaf .ensures, c .if1 .taken)
-
 misshapen-requires : tie.Need-misshapen-requires
 misshapen-requires c κs = search needs
 
-returns-2 : tie.Need-returns-2
-unfolding decided
-returns-2 c = simp (← c .before .before .before .is-deaf .ensures, c .before .before .if1 .left, ← c .before .misshapen .ensures, c .if2 .taken)
-
 is-response-requires : tie.Need-is-response-requires
 is-response-requires c κs = search needs
-
-returns-3 : tie.Need-returns-3
-unfolding decided
-returns-3 c = simp (← c .before .before .before .before .before .is-deaf .ensures, c .before .before .before .before .if1 .left, ← c .before .before .before .misshapen .ensures, c .before .before .if2 .left, ← c .before .is-response .ensures, c .if3 .taken)
 
 type-of-requires : tie.Need-type-of-requires
 type-of-requires c κs = search needs
@@ -33,8 +21,20 @@ type-of-requires c κs = search needs
 look-up-requires : tie.Need-look-up-requires
 look-up-requires c κs = search needs
 
-enum-known-k : tie.Need-enum-known-k
-enum-known-k c = search needs
+returns : tie.Need-returns
+unfolding decided
+returns c = simp (← c .before .before .before .before .before .is-deaf .ensures, c .if1 .taken)
+
+returns-2 : tie.Need-returns-2
+unfolding decided
+returns-2 c = simp (← c .before .before .before .before .before .before .is-deaf .ensures, c .before .if1 .left, ← c .before .before .before .before .before .misshapen .ensures, c .if2 .taken)
+
+returns-3 : tie.Need-returns-3
+unfolding decided
+returns-3 c = simp (← c .before .before .before .before .before .before .before .is-deaf .ensures, c .before .before .if1 .left, ← c .before .before .before .before .before .before .misshapen .ensures, c .before .if2 .left, ← c .before .before .before .before .before .is-response .ensures, c .if3 .taken)
+
+enum-known-found : tie.Need-enum-known-found
+enum-known-found c = search needs
 
 decide-kind-requires : tie.Need-decide-kind-requires
 decide-kind-requires c κs = search needs
@@ -45,28 +45,28 @@ enum-told c = search needs
 returns-4 : tie.Need-returns-4
 unfolding decided judgedKind
 returns-4 c =
-    simp (← c .before .before .before .before .before .before .before .before .before .before .before .is-deaf .ensures, c .before .before .before .before .before .before .before .before .before .before .if1 .left, ← c .before .before .before .before .before .before .before .before .before .misshapen .ensures, c .before .before .before .before .before .before .before .before .if2 .left, ← c .before .before .before .before .before .before .before .is-response .ensures, c .before .before .before .before .before .before .if3 .left)
-    (simp (← c .before .before .before .before .before .type-of .ensures, ← c .before .before .before .before .look-up .ensures, c .before .before .k .given .1) (c .decide-kind .ensures))
+    simp (← c .before .before .before .before .before .before .before .before .before .before .before .is-deaf .ensures, c .before .before .before .before .before .before .if1 .left, ← c .before .before .before .before .before .before .before .before .before .before .misshapen .ensures, c .before .before .before .before .before .if2 .left, ← c .before .before .before .before .before .before .before .before .before .is-response .ensures, c .before .before .before .before .if3 .left)
+    (simp (← c .before .before .before .before .before .before .before .before .type-of .ensures, ← c .before .before .before .before .before .before .before .look-up .ensures, c .before .before .found .given .1) (c .decide-kind .ensures))
 
 returns-5 : tie.Need-returns-5
 unfolding decided
 returns-5 c =
-    simp (← c .before .before .before .before .before .before .before .before .before .is-deaf .ensures, c .before .before .before .before .before .before .before .before .if1 .left, ← c .before .before .before .before .before .before .before .misshapen .ensures, c .before .before .before .before .before .before .if2 .left, ← c .before .before .before .before .before .is-response .ensures, c .before .before .before .before .if3 .left)
-    (simp (← c .before .before .before .type-of .ensures, ← c .before .before .look-up .ensures, c .enum-told .given .1))
+    simp (← c .before .before .before .before .before .before .before .before .before .is-deaf .ensures, c .before .before .before .before .if1 .left, ← c .before .before .before .before .before .before .before .before .misshapen .ensures, c .before .before .before .if2 .left, ← c .before .before .before .before .before .before .before .is-response .ensures, c .before .before .if3 .left)
+    (simp (← c .before .before .before .before .before .before .type-of .ensures, ← c .before .before .before .before .before .look-up .ensures, c .enum-told .given .1))
 
 pub decide-spec : {M : Type 1} → statement M
 decide-spec =
     tie.close
     (tie.spec
     is-deaf-requires
-    returns
     misshapen-requires
-    returns-2
     is-response-requires
-    returns-3
     type-of-requires
     look-up-requires
-    enum-known-k
+    returns
+    returns-2
+    returns-3
+    enum-known-found
     decide-kind-requires
     enum-told
     returns-4

@@ -19,16 +19,16 @@ asked-requires c κs = search needs
 returns : tie.Need-returns
 unfolding judgedKind
 returns c =
-    simp (← c .before .before .before .before .handled-here .ensures, c .before .before .before .if1 .taken, ← c .before .before .is-for .ensures, c .before .if2 .taken)
-    (c .asked .ensures ∙ asked-judged (c .before .before .before .before .before .before .args .k .request) (c .before .before .before .before .before .before .args .n .mode) (c .before .before .before .before .before .before .args .frame .now))
+    simp (← c .before .before .before .before .handled-here .ensures, c .before .if1 .taken, ← c .before .before .before .is-for .ensures, c .if2 .taken)
+    (c .before .before .asked .ensures ∙ asked-judged (c .before .before .before .before .before .before .args .k .request) (c .before .before .before .before .before .before .args .n .mode) (c .before .before .before .before .before .before .args .frame .now))
 
 returns-2 : tie.Need-returns-2
 unfolding judgedKind
-returns-2 c = simp (← c .before .before .before .handled-here .ensures, c .before .before .if1 .taken, ← c .before .is-for .ensures, c .if2 .left)
+returns-2 c = simp (← c .before .before .before .before .handled-here .ensures, c .before .if1 .taken, ← c .before .before .before .is-for .ensures, c .if2 .left)
 
 returns-3 : tie.Need-returns-3
 unfolding judgedKind
-returns-3 c = simp (← c .before .handled-here .ensures, c .if1 .left)
+returns-3 c = simp (← c .before .before .before .handled-here .ensures, c .if1 .left)
 
 pub decide-kind-spec : {M : Type 1} → statement M
 decide-kind-spec =
