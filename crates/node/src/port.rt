@@ -249,11 +249,13 @@ pub fn listen(n: Node, byte: u8, flash: &mut [u8], eeprom: &mut [u8]) -> UartAns
     ensures { λ r. ⌜ uartAfter r (now (flash .exit)) (now (eeprom .exit)) ≡ listened n byte (now (flash .entry)) (now (eeprom .entry)) ⌝ }
 {
     let pin = n.pin;
-    if is_closed(pin) {
+    let mode = n.mode;
+    let closed = is_closed(pin);
+    let deaf = is_deaf(mode);
+    if closed {
         return silent(2, n);
     }
-    let mode = n.mode;
-    if is_deaf(mode) {
+    if deaf {
         return silent(3, n);
     }
     hear(n, byte, flash, eeprom)
