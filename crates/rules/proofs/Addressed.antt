@@ -16,8 +16,7 @@ use Rattle.rules.specs.Requests.{D, isFor}
 -- ""Group" means D2 is 0x00 and D3 is 0x00 or the own group"
 pub group-says : (n : Node) (f : List ℕ) → isFor AsGroup n f ≡ true → (D 2 f ≡ 0x00) × ((D 3 f ≡ 0x00) ⊎ (D 3 f ≡ n .group .0))
 group-says n f e =
-    let p = both-true (eqb (D 2 f) 0x00) (eqb (D 3 f) 0x00 || eqb (D 3 f) (n .group .0)) e in
-    (
+    let p = both-true (eqb (D 2 f) 0x00) (eqb (D 3 f) 0x00 || eqb (D 3 f) (n .group .0)) e in (
       eqb-true (D 2 f) 0x00 (p .0),
       ⊎-elim (λ h. inl (eqb-true (D 3 f) 0x00 h)) (λ h. inr (eqb-true (D 3 f) (n .group .0) h))
           (either-true (eqb (D 3 f) 0x00) (eqb (D 3 f) (n .group .0)) (p .1)),

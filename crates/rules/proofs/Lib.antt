@@ -4,3 +4,12 @@ pub mod AnswerOne
 pub mod Spoiling
 pub mod Addressed
 pub mod Foreign
+pub mod Ruling
+pub mod Rows
+pub mod ShownRows
+pub mod ProgrammingRows
+pub mod Restarting
+pub mod Modes
+pub mod Agreement
+pub mod TidiedOnce
+pub mod Pairs
