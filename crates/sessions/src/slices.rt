@@ -1,0 +1,65 @@
+// Parts of a slice, and stores into one, that ask nothing of their caller.
+ghost use Prim.Native.Nat.{_≤_};
+
+// The n elements from `from` on, or as many as there are.
+pub fn part(s: &[u8], from: usize, n: usize) -> &[u8] {
+    if s.len() < from {
+        return &s[..0];
+    }
+    if s.len() - from < n {
+        return &s[from..];
+    }
+    &s[from..from + n]
+}
+
+// The smaller number.
+fn least(a: usize, b: usize) -> usize
+    ensures { λ r. ⌜ r ≤ b ⌝ }
+{
+    if a < b {
+        return a;
+    }
+    b
+}
+
+// The first n cells of a memory, or as many as there are.
+pub fn lent(s: &mut [u8], n: usize) -> &mut [u8] {
+    let cells = least(n, s.len());
+    &mut s[..cells]
+}
+
+// The cell at i becomes v, where there is one.
+pub fn put(s: &mut [u8], i: usize, v: u8) {
+    if i < s.len() {
+        s[i] = v;
+    }
+}
+
+// Every cell becomes v.
+pub fn fill(s: &mut [u8], v: u8) {
+    let mut i: usize = 0;
+    while i < s.len() {
+        s[i] = v;
+        i += 1;
+    }
+}
+
+// The bytes of the one go into the other from `at` on, as far as there is room; answers the place behind them.
+pub fn append(to: &mut [u8], at: usize, from: &[u8]) -> usize {
+    let mut end = at;
+    let mut i: usize = 0;
+    while i < from.len() {
+        end = push(to, end, from[i]);
+        i += 1;
+    }
+    end
+}
+
+// One byte more at `at`; answers the place behind it, `at` itself where there is no room.
+pub fn push(to: &mut [u8], at: usize, v: u8) -> usize {
+    if at < to.len() {
+        to[at] = v;
+        return at + 1;
+    }
+    at
+}
