@@ -13,3 +13,4 @@ pub mod Modes
 pub mod Agreement
 pub mod TidiedOnce
 pub mod Pairs
+pub mod Reached
