@@ -1,3 +1,4 @@
 pub mod Listening
 pub mod AnswerOne
+pub mod AnswerTwo
 pub mod Tight

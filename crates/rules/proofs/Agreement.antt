@@ -2,30 +2,26 @@
 -- frame gives on CAN, the replies wrapped. A byte is held behind those that are held, and the fifteenth is judged.
 -- Assumes nothing.
 use mathlib.Core.Path.{_≡_, _∙_, refl, sym, ap}
-use mathlib.Core.Bool.{Bool, true, false, cond, false≢true}
+use mathlib.Core.Bool.{Bool, true, false, cond}
 use mathlib.Core.List.{List, [], _∷_, _++_, append-assoc}
-use mathlib.Core.Logic.{_⊎_, ⊎-elim, inl, inr}
+use mathlib.Core.Logic.{_⊎_, ⊎-elim}
 use Prim.Native.Nat.{ℕ, suc, _+_, _%_, _≤_}
-use native.Mathlib.Nat.{suc-ne-zero}
 use native.Mathlib.Omega.{arith}
-use lib.Dec.{eqb, ltb}
 use lib.ListN.{length, getD, take, replicate, length-append}
 use borrow.Author.Tests.{eq-eqb, ne-eqb, lt-ltb, le-ltb}
 use Rattle.base.proofs.Choice.{cond-true, cond-false, cond-same}
 use Rattle.address.specs.Places.{full}
 use Rattle.frames.specs.Wrapping.{sumOf, wrappedOf, innerOf, rightlyWrapped}
 use Rattle.frames.proofs.Wrapped.{wrapped-length, wrapped-inner, wrapped-right, right-says}
-use Rattle.rules.specs.declared.Pin.{Pin}
-use Rattle.rules.specs.declared.Pin.the-variants.{CanOnly, CanAndUart}
-use Rattle.rules.specs.declared.Mode.{Mode}
-use Rattle.rules.specs.declared.Mode.the-variants.{Normal, Programming, Error, Waiting}
+use Rattle.rules.specs.declared.Pin.the-variants.{CanAndUart}
 use Rattle.rules.specs.declared.Node.{Node}
-use Rattle.rules.specs.Record.{padded, holding, withMode, mayHold, heldOf, tidyMode, tidied}
+use Rattle.rules.specs.Record.{holding, mayHold, heldOf, tidyMode, tidied}
 use Rattle.rules.specs.Outcomes.{isDeaf}
-use Rattle.rules.specs.Step.{Step, obeyed, canStep}
+use Rattle.rules.specs.Step.{obeyed, canStep}
 use Rattle.rules.specs.Uart.{UartStep, taken, incomplete, afterBad, isClosed, silent, viaUart, received, uartTidy, uartStep}
-use Rattle.rules.proofs.Tidying.{Holdable, held-holdable, holdable-few, held-held, mode-twice, holding-tidy, tidy-twice}
+use Rattle.rules.proofs.Tidying.{Holdable, held-holdable, held-held, mode-twice, holding-tidy, tidy-twice}
 use Rattle.rules.proofs.Ruling.{sizes-full}
+use Rattle.rules.proofs.Modes.{tidy-deaf}
 
 -- bytes one after the other, each to the node and the memories that the one before left: all that each leaves
 abbrev pub bytesIn : List ℕ → Node → List ℕ → List ℕ → List UartStep
@@ -149,13 +145,7 @@ NoStart (b ∷ bs) = (b ≡ 0xAA → ⊥) × NoStart bs
 module _ (n : Node) (flash eeprom : List ℕ) (fl : length flash ≡ 65536) (el : length eeprom ≡ 1024) (pin : n .pin ≡ CanAndUart)
     (hears : isDeaf (n .mode) ≡ false) where
   still-hears : isDeaf (tidyMode (n .mode)) ≡ false
-  still-hears = go (n .mode) hears
-    where
-      go : (m : Mode) → isDeaf m ≡ false → isDeaf (tidyMode m) ≡ false
-      go (Normal s) e = refl
-      go (Programming s) e = refl
-      go Error e = e
-      go Waiting e = e
+  still-hears = tidy-deaf (n .mode) ∙ hears
 
   tidied-hears : isDeaf (tidied n .mode) ≡ false
   unfolding tidied

@@ -1,12 +1,11 @@
 -- What a frame or a byte can do to the mode. Only restart leaves error mode or waiting; programming is entered by 0x100 alone; normal
 -- mode is never entered, and where a call leaves it so the mark stays. What a frame comes to says which modes it can lead to.
 -- Assumes nothing.
-use mathlib.Core.Path.{_≡_, _∙_, refl, sym, ap}
-use mathlib.Core.Bool.{Bool, true, false, _&&_, not, cond, false≢true}
+use mathlib.Core.Path.{_≡_, _∙_, refl, sym}
+use mathlib.Core.Bool.{Bool, true, false, _&&_, not, false≢true}
 use mathlib.Core.List.{List, [], _∷_}
 use Prim.Native.Nat.{ℕ}
 use lib.Dec.{eqb}
-use lib.ListN.{length}
 use borrow.Author.Tests.{eqb-true}
 use Rattle.base.proofs.Choice.{by-cond, both-true}
 use Rattle.address.specs.Places.{full}
@@ -32,9 +31,8 @@ use Rattle.rules.specs.Record.{holding, heldOf, tidyMode, tidied}
 use Rattle.rules.specs.Requests.{D, ruledIn, staging, doing, stagedIn, isProgramming, isFor, handledHere, asked, illegalAddress, nothingStaged}
 use Rattle.rules.specs.Table.{lookIn, found, handledTypes}
 use Rattle.rules.specs.Outcomes.{row, firstThat, typeRows, isDeaf, misshapen, isResponse, askedBy, judged, decided}
-use Rattle.rules.specs.Replies.{quiet}
-use Rattle.rules.specs.Step.{Step, after, acted, obeyed, canStep}
-use Rattle.rules.specs.Uart.{UartStep, taken, incomplete, afterBad, isClosed, silent, viaUart, received, uartStep}
+use Rattle.rules.specs.Step.{Step, acted, obeyed, canStep}
+use Rattle.rules.specs.Uart.{UartStep, taken, incomplete, isClosed, uartStep}
 use Rattle.rules.proofs.Ruling.{judged-asked}
 
 -- ---- what the table says of two of its requests: 0x100 alone asks for programming, and 0x030 is handled in programming mode
@@ -199,7 +197,7 @@ tidy-programming (Programming s) = refl
 tidy-programming Error = refl
 tidy-programming Waiting = refl
 
-tidy-deaf : (m : Mode) → isDeaf (tidyMode m) ≡ isDeaf m
+pub tidy-deaf : (m : Mode) → isDeaf (tidyMode m) ≡ isDeaf m
 tidy-deaf (Normal c) = refl
 tidy-deaf (Programming s) = refl
 tidy-deaf Error = refl

@@ -1,11 +1,11 @@
 -- The list "In programming mode only", one theorem a line and a command: the frame's bytes, and all that the call leaves, written out as
 -- document 01 has them. A staged command is what the tidied record has; that it is legal follows.
 -- Assumes nothing.
-use mathlib.Core.Path.{_≡_, _∙_, refl, sym, ap}
-use mathlib.Core.Bool.{Bool, true, false, _&&_}
+use mathlib.Core.Path.{_≡_, _∙_, refl, ap}
+use mathlib.Core.Bool.{true, false, _&&_}
 use mathlib.Core.List.{List, [], _∷_, _++_}
 use mathlib.Core.Logic.{_⊎_, inl, inr}
-use Prim.Native.Nat.{ℕ, _+_, _-_, _*_, _≤_}
+use Prim.Native.Nat.{ℕ, _+_, _-_, _*_}
 use native.Mathlib.Omega.{arith}
 use lib.Bits.{bitAnd}
 use lib.Dec.{eqb}
@@ -18,7 +18,6 @@ use Rattle.address.specs.declared.Address.the-variants.{Flash, Eeprom}
 use Rattle.address.specs.declared.Ruled.{Ruled}
 use Rattle.address.specs.declared.Ruled.the-variants.{Legal, Illegal}
 use Rattle.address.proofs.Laws.{flash-ruled, eeprom-ruled, flash-within, eeprom-within, flash-readable, eeprom-readable}
-use Rattle.cells.specs.Memory.{flashWritten, flashErased, eepromWritten}
 use Rattle.cells.proofs.Laws.{erased-done, eeprom-written-done}
 use Rattle.show.specs.Shown.{shown}
 use Rattle.frames.specs.Frame.{typeOf}
@@ -33,10 +32,10 @@ use Rattle.rules.specs.declared.Node.{Node}
 use Rattle.rules.specs.declared.Kind.{Kind}
 use Rattle.rules.specs.declared.Found.the-variants.{Handled}
 use Rattle.rules.specs.Record.{withMode, legalStaged, tidyMode, tidyStaged, tidied}
-use Rattle.rules.specs.Requests.{isProgramming, isFor, staging, doing, stagedIn, asked}
+use Rattle.rules.specs.Requests.{isProgramming, isFor, staging, doing, asked}
 use Rattle.rules.specs.Outcomes.{misshapen, isResponse}
 use Rattle.rules.specs.Table.{kind, found, handledTypes}
-use Rattle.rules.specs.Step.{Step, after, acted, canStep}
+use Rattle.rules.specs.Step.{acted, canStep}
 use Rattle.rules.proofs.Ruling.{sizes-full, obeys}
 use Rattle.rules.proofs.Rows.{leaves}
 use Rattle.rules.proofs.ShownRows.{flash-row, eeprom-row, flash-put, flash-shows, eeprom-shows}

@@ -1,32 +1,26 @@
 -- Restart, one theorem a line of its rule: what it leaves in each case, and when firmware is marked started, both ways.
 -- Assumes nothing.
 use mathlib.Core.Path.{_≡_, _∙_, refl, sym, ap}
-use mathlib.Core.Bool.{Bool, true, false, _&&_, cond, false≢true}
-use mathlib.Core.List.{List, []}
+use mathlib.Core.Bool.{Bool, true, false, cond}
+use mathlib.Core.List.{List}
 use mathlib.Core.Logic.{_⊎_, inl, inr}
 use Prim.Native.Nat.{ℕ, _+_, _*_}
 use lib.Dec.{eqb}
 use lib.ListN.{length, getD, replicate}
 use borrow.Author.Tests.{eq-eqb, ne-eqb}
 use Rattle.base.specs.Parts.{part}
-use Rattle.base.proofs.Choice.{by-cond}
-use Rattle.address.specs.Places.{full}
-use Rattle.sum.specs.Sum.{sumOf, firmwareSum, storedSumOf, starts}
+use Rattle.sum.specs.Sum.{sumOf, storedSumOf, starts}
 use Rattle.sum.proofs.Laws.{starts-if, starts-only-if}
 use Rattle.rules.specs.declared.Pin.{Pin}
-use Rattle.rules.specs.declared.Pin.the-variants.{CanOnly, CanAndUart}
 use Rattle.rules.specs.declared.Staged.the-variants.{Nothing}
 use Rattle.rules.specs.declared.Mode.{Mode}
-use Rattle.rules.specs.declared.Mode.the-variants.{Normal, Programming, Error, Waiting}
+use Rattle.rules.specs.declared.Mode.the-variants.{Normal, Programming, Error}
 use Rattle.rules.specs.declared.Node.{Node}
 use Rattle.rules.specs.declared.Restarted.{Restarted}
-use Rattle.rules.specs.Record.{padded, tidied, freshNode}
-use Rattle.rules.specs.Restart.{nodeAfter, restartStep}
+use Rattle.rules.specs.Record.{tidied}
+use Rattle.rules.specs.Restart.{restartStep}
 use Rattle.rules.proofs.Ruling.{sizes-full}
-
-and-false : (b : Bool) → (b && false) ≡ false
-and-false true = refl
-and-false false = refl
+use Rattle.rules.proofs.Rows.{and-false, worked-out}
 
 -- "FLASH not 65,536 or EEPROM not 1,024 bytes": 1 and "all unchanged", so not even the pin is taken
 pub restart-refused : (n : Node) (pin : Pin) (passed : Bool) (flash eeprom : List ℕ)
@@ -37,15 +31,11 @@ restart-refused n pin passed flash eeprom (inl m) = rw (ne-eqb (length flash) 65
 restart-refused n pin passed flash eeprom (inr m) =
     rw (ne-eqb (length eeprom) 1024 m, and-false (eqb (length flash) 65536)) refl
 
--- the stored sum and the firmware sum of a full FLASH, by place
+-- the stored sum of a full FLASH, by place
 pub stored-by-place : (flash : List ℕ) → length flash ≡ 65536
     → storedSumOf flash ≡ getD flash 0x001000 0 * 65536 + getD flash 0x001001 0 * 256 + getD flash 0x001002 0
 unfolding storedSumOf
 stored-by-place flash l = rw (eq-eqb (length flash) 65536 l) refl
-
-pub summed-by-place : (flash : List ℕ) → length flash ≡ 65536 → firmwareSum flash ≡ sumOf (part flash 0x001003 28669)
-unfolding firmwareSum
-summed-by-place flash l = rw (eq-eqb (length flash) 65536 l) refl
 
 -- "stored sum equals firmware sum", by place
 abbrev pub SumsAgree : List ℕ → Type 0
@@ -53,10 +43,10 @@ SumsAgree flash =
     getD flash 0x001000 0 * 65536 + getD flash 0x001001 0 * 256 + getD flash 0x001002 0 ≡ sumOf (part flash 0x001003 28669)
 
 pub agree-starts : (flash : List ℕ) → length flash ≡ 65536 → SumsAgree flash → starts flash ≡ true
-agree-starts flash l e = starts-if flash l (stored-by-place flash l ∙ e ∙ sym (summed-by-place flash l))
+agree-starts flash l e = starts-if flash l (stored-by-place flash l ∙ e ∙ sym (worked-out flash l))
 
 pub starts-agree : (flash : List ℕ) → length flash ≡ 65536 → starts flash ≡ true → SumsAgree flash
-starts-agree flash l e = sym (stored-by-place flash l) ∙ starts-only-if flash e .1 ∙ summed-by-place flash l
+starts-agree flash l e = sym (stored-by-place flash l) ∙ starts-only-if flash e .1 ∙ worked-out flash l
 
 disagree-starts : (flash : List ℕ) → length flash ≡ 65536 → (SumsAgree flash → ⊥) → starts flash ≡ false
 disagree-starts flash l m = go (starts flash) refl

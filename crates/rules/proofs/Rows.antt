@@ -1,33 +1,32 @@
 -- The request table, one theorem a row: the frame's bytes, and all that the call leaves, written out as document 01 has them. Each is the
 -- law of a row at that type; what is left computes.
 -- Assumes nothing.
-use mathlib.Core.Path.{_≡_, _∙_, refl, sym, ap}
+use mathlib.Core.Path.{_≡_, _∙_, refl, sym}
 use mathlib.Core.Bool.{Bool, true, false, _&&_, _||_}
-use mathlib.Core.List.{List, [], _∷_, _++_}
+use mathlib.Core.List.{List, [], _∷_}
 use mathlib.Core.Logic.{_⊎_, inl, inr}
 use Prim.Native.Nat.{ℕ, _+_, _/_, _%_}
 use lib.Dec.{eqb}
 use lib.ListN.{length, getD, set, replicate}
-use borrow.Author.Tests.{eq-eqb}
+use borrow.Author.Tests.{eq-eqb, ne-eqb}
 use Rattle.base.specs.Parts.{part}
 use Rattle.base.proofs.Choice.{true-both}
 use Rattle.sum.specs.Sum.{sumOf, firmwareSum}
 use Rattle.frames.specs.Frame.{typeOf}
 use Rattle.rules.specs.declared.HandledIn.the-variants.{InNormal}
-use Rattle.rules.specs.declared.Addressing.the-variants.{AsGroup, AsNode}
+use Rattle.rules.specs.declared.Addressing.the-variants.{AsGroup, AsNode, OwnNumbers}
 use Rattle.rules.specs.declared.Request.the-variants.{EnterProgramming, WaitForRestart, HardwareType, FirmwareType, Description, DeviceId}
 use Rattle.rules.specs.declared.Staged.the-variants.{Nothing}
-use Rattle.rules.specs.declared.Mode.{Mode}
 use Rattle.rules.specs.declared.Mode.the-variants.{Normal, Programming, Waiting}
 use Rattle.rules.specs.declared.Node.{Node}
 use Rattle.rules.specs.declared.Kind.{Kind}
 use Rattle.rules.specs.declared.Found.the-variants.{Handled, Unhandled}
-use Rattle.rules.specs.Record.{withMode, tidyMode, tidied}
+use Rattle.rules.specs.Record.{withMode, tidied}
 use Rattle.rules.specs.Requests.{isNormal, handledHere, isFor, asked}
 use Rattle.rules.specs.Outcomes.{isDeaf, misshapen, isResponse}
 use Rattle.rules.specs.Table.{kind, found, handledTypes}
 use Rattle.rules.specs.Step.{Step, acted, canStep}
-use Rattle.rules.proofs.Ruling.{sizes-full, obeys, not-in-table, not-in-mode}
+use Rattle.rules.proofs.Ruling.{sizes-full, obeys, not-in-table, not-in-mode, not-for-it}
 
 -- all that a call leaves: the number, how many replies, their 24 bytes, the node, FLASH, EEPROM
 abbrev pub leaves : ℕ → ℕ → List ℕ → Node → List ℕ → List ℕ → Step
@@ -52,8 +51,21 @@ to-group n d2 d3 (z, inr e) = rw (eq-eqb d2 0 z, eq-eqb d3 (n .group .0) e) (go 
 to-node : (n : Node) (d2 d3 : ℕ) → ToNode n d2 d3 → (eqb d2 (n .own .0) && eqb d3 (n .group .0)) ≡ true
 to-node n d2 d3 (e, f) = true-both (eqb d2 (n .own .0)) _ (eq-eqb d2 (n .own .0) e) (eq-eqb d3 (n .group .0) f)
 
+pub and-false : (b : Bool) → (b && false) ≡ false
+and-false true = refl
+and-false false = refl
+
+other-group : (n : Node) (d2 d3 : ℕ) → (d2 ≡ 0x00 → ⊥) ⊎ ((d3 ≡ 0x00 → ⊥) × (d3 ≡ n .group .0 → ⊥))
+    → (eqb d2 0x00 && (eqb d3 0x00 || eqb d3 (n .group .0))) ≡ false
+other-group n d2 d3 (inl x) = rw (ne-eqb d2 0 x) refl
+other-group n d2 d3 (inr (x, y)) = rw (ne-eqb d3 0 x, ne-eqb d3 (n .group .0) y) (and-false (eqb d2 0))
+
+other-numbers : (x y m g : ℕ) → (m ≡ x → ⊥) ⊎ (g ≡ y → ⊥) → (eqb m x && eqb g y) ≡ false
+other-numbers x y m g (inl d) = rw (ne-eqb m x d) refl
+other-numbers x y m g (inr d) = rw (ne-eqb g y d) (and-false (eqb m x))
+
 -- the worked-out sum is that of the cells 0x001003 to 0x007FFF
-worked-out : (flash : List ℕ) → length flash ≡ 65536 → firmwareSum flash ≡ sumOf (part flash 0x001003 28669)
+pub worked-out : (flash : List ℕ) → length flash ≡ 65536 → firmwareSum flash ≡ sumOf (part flash 0x001003 28669)
 unfolding firmwareSum
 worked-out flash l = rw (eq-eqb (length flash) 65536 l) refl
 
@@ -180,6 +192,33 @@ module _ (n : Node) (f flash eeprom : List ℕ) (fl : length flash ≡ 65536) (e
       → canStep n f flash eeprom ≡ leaves 6 0 (replicate 24 0) (tidied n) flash eeprom
   unfolding acted
   row-other-mode k m e h = not-in-mode n f flash eeprom (sizes-full flash eeprom fl el) shaped asking k m e h
+
+  -- "not for this node": 7. A frame of a "group" type with D2 not 0x00, or with D3 neither 0x00 nor the own group; one of a "node" type
+  -- with D2 or D3 not the own number
+  pub row-not-for-group : (k : Kind) → found (typeOf f) ≡ Handled k → handledHere (k .handled) (tidied n .mode) ≡ true
+      → k .addressing ≡ AsGroup
+      → (getD f 6 0 ≡ 0x00 → ⊥) ⊎ ((getD f 7 0 ≡ 0x00 → ⊥) × (getD f 7 0 ≡ n .group .0 → ⊥))
+      → canStep n f flash eeprom ≡ leaves 7 0 (replicate 24 0) (tidied n) flash eeprom
+  unfolding acted tidied
+  row-not-for-group k e h g d =
+      not-for-it n f flash eeprom (sizes-full flash eeprom fl el) shaped asking k e h (rw g (other-group n (getD f 6 0) (getD f 7 0) d))
+
+  pub row-not-for-node : (k : Kind) → found (typeOf f) ≡ Handled k → handledHere (k .handled) (tidied n .mode) ≡ true
+      → k .addressing ≡ AsNode → (getD f 6 0 ≡ n .own .0 → ⊥) ⊎ (getD f 7 0 ≡ n .group .0 → ⊥)
+      → canStep n f flash eeprom ≡ leaves 7 0 (replicate 24 0) (tidied n) flash eeprom
+  unfolding acted tidied
+  row-not-for-node k e h g d =
+      not-for-it n f flash eeprom (sizes-full flash eeprom fl el) shaped asking k e h
+      (rw g (other-numbers (n .own .0) (n .group .0) (getD f 6 0) (getD f 7 0) d))
+
+  -- and in programming mode one whose frame module and group are not the own numbers
+  pub row-not-for-own : (k : Kind) → found (typeOf f) ≡ Handled k → handledHere (k .handled) (tidied n .mode) ≡ true
+      → k .addressing ≡ OwnNumbers → (getD f 2 0 ≡ n .own .0 → ⊥) ⊎ (getD f 3 0 ≡ n .group .0 → ⊥)
+      → canStep n f flash eeprom ≡ leaves 7 0 (replicate 24 0) (tidied n) flash eeprom
+  unfolding acted tidied
+  row-not-for-own k e h g d =
+      not-for-it n f flash eeprom (sizes-full flash eeprom fl el) shaped asking k e h
+      (rw g (other-numbers (n .own .0) (n .group .0) (getD f 2 0) (getD f 3 0) d))
 
 -- 0x107, 0x10B, 0x10C (supply voltage and what 001 has beside), 0x1F1 and 0x0F0 (error frames) are among the others
 pub others : (found 0x107 ≡ Unhandled) × (found 0x10B ≡ Unhandled) × (found 0x10C ≡ Unhandled) × (found 0x110 ≡ Unhandled)

@@ -1,8 +1,8 @@
 -- The law of a row: over full memories a frame that has the right shape, is no response, is of a type that is handled in the mode and
 -- is for the node comes to what its request asks. Rows 8 and 9 of the outcome table are what the request itself comes to.
 -- Assumes nothing.
-use mathlib.Core.Path.{_≡_, _∙_, refl, sym, ap}
-use mathlib.Core.Bool.{Bool, true, false, not, cond, false≢true}
+use mathlib.Core.Path.{_≡_, refl, ap}
+use mathlib.Core.Bool.{true, false, not, false≢true}
 use mathlib.Core.List.{List, [], _∷_}
 use Prim.Native.Nat.{ℕ}
 use lib.Dec.{eqb}
@@ -31,7 +31,7 @@ use Rattle.rules.specs.Record.{tidied}
 use Rattle.rules.specs.Requests.{D, ruledIn, staging, doing, stagedIn, isNothing, isFor, handledHere, asked, illegalAddress, nothingStaged}
 use Rattle.rules.specs.Table.{found}
 use Rattle.rules.specs.Outcomes.{row, firstThat, judged, isDeaf, misshapen, isResponse, decided}
-use Rattle.rules.specs.Step.{Step, acted, canStep}
+use Rattle.rules.specs.Step.{acted, canStep}
 
 -- memories of their size are full
 pub sizes-full : (flash eeprom : List ℕ) → length flash ≡ 65536 → length eeprom ≡ 1024 → full flash eeprom ≡ true
@@ -94,3 +94,11 @@ module _ (n : Node) (f flash eeprom : List ℕ) (sized : full flash eeprom ≡ t
         → canStep n f flash eeprom ≡ acted (tidied n) (Refuse 6) f flash eeprom
     unfolding decided
     not-in-mode k m e h = by-decision (Refuse 6) (rw (e, m, shape, request, h) refl)
+
+    -- a frame that is for another node
+    pub not-for-it : (k : Kind) → found (typeOf f) ≡ Handled k → handledHere (k .handled) (tidied n .mode) ≡ true
+        → isFor (k .addressing) (tidied n) f ≡ false → canStep n f flash eeprom ≡ acted (tidied n) (Refuse 7) f flash eeprom
+    unfolding decided
+    not-for-it k e h a =
+        by-decision (Refuse 7)
+        (rw (e, handled-hears (k .handled) (tidied n .mode) h, shape, request, h, a) refl)

@@ -1,22 +1,22 @@
 -- The rows of a memory, cell by cell: what a row shows, before and after a write or an erase.
 -- Assumes nothing.
 use mathlib.Core.Path.{_≡_, _∙_, refl, sym, ap}
-use mathlib.Core.Bool.{Bool, true}
+use mathlib.Core.Bool.{true}
 use mathlib.Core.List.{List, [], _∷_}
 use Prim.Native.Nat.{ℕ, _+_, _-_, _≤_, _<_}
 use native.Mathlib.Nat.{add-zero}
 use native.Mathlib.Numerals.{towards-suc}
 use native.Mathlib.Omega.{arith}
 use lib.Bits.{bitAnd}
-use lib.ListN.{length, getD, replicate, length-replicate}
+use lib.ListN.{length, getD}
 use Rattle.base.specs.Parts.{part, patch, listed}
 use Rattle.base.proofs.Listed.{listed-part}
 use Rattle.base.proofs.Patched.{part-cell, length-patch, inside-patch}
 use Rattle.address.specs.Rule.{legalFlash, legalEeprom}
-use Rattle.address.proofs.Laws.{flash-within, eeprom-within, flash-readable, eeprom-readable}
+use Rattle.address.proofs.Laws.{flash-within}
 use Rattle.cells.specs.Leaves.{combined}
-use Rattle.cells.specs.Memory.{flashWritten, flashErased, eepromWritten}
-use Rattle.cells.proofs.Laws.{written-done, erased-done, eeprom-written-done}
+use Rattle.cells.specs.Memory.{flashWritten}
+use Rattle.cells.proofs.Laws.{written-done}
 use Rattle.show.specs.Shown.{shown}
 use Rattle.show.proofs.Laws.{shown-flash, shown-eeprom}
 use Rattle.rules.proofs.Ruling.{sizes-full}
