@@ -117,7 +117,8 @@ eraseFlash a = Erase (record { 0 = a })
 abbrev pub answered : Node → Staged → List ℕ → List ℕ → List ℕ → Step
 answered n s reply flash eeprom = after (one (programming n s) reply) flash eeprom
 
-sized : (flash eeprom : List ℕ) → length flash ≡ 65536 → length eeprom ≡ 1024 → full flash eeprom ≡ true
+-- memories of full size
+pub sized : (flash eeprom : List ℕ) → length flash ≡ 65536 → length eeprom ≡ 1024 → full flash eeprom ≡ true
 sized flash eeprom l k =
     true-both (eqb (length flash) 65536) (eqb (length eeprom) 1024) (eq-eqb (length flash) 65536 l) (eq-eqb (length eeprom) 1024 k)
 

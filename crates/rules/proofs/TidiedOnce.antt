@@ -19,7 +19,7 @@ use Rattle.rules.specs.declared.Node.{Node}
 use Rattle.rules.specs.Record.{holding, withMode, mayHold, heldOf, legalStaged, tidyMode, tidied}
 
 -- what may be held: nothing, or at most 14 bytes from 0xAA on
-data MayBeHeld : List ℕ → Type 0 where
+pub data MayBeHeld : List ℕ → Type 0 where
   none : MayBeHeld []
   some : (xs : List ℕ) → length xs ≤ 13 → MayBeHeld (0xAA ∷ xs)
 
@@ -43,6 +43,29 @@ held-again : (n : Node) (m : Mode) (xs : List ℕ) → MayBeHeld xs → heldOf (
 unfolding heldOf
 held-again n m [] none = refl
 held-again n m (x ∷ xs) (some ys l) = simp (le-leb (suc (length ys)) 14 (omega arith), take-append-seam)
+
+-- ---- a tidied record that holds what may be held
+
+tidy-twice : (m : Mode) → tidyMode (tidyMode m) ≡ tidyMode m
+tidy-twice (Normal started) = refl
+tidy-twice (Programming s) = ap Programming (go (legalStaged s) refl)
+  where
+    go : (b : Bool) → legalStaged s ≡ b → cond (legalStaged (cond b s Nothing)) (cond b s Nothing) Nothing ≡ cond b s Nothing
+    go true e = rw e
+    go false e = refl
+tidy-twice Error = refl
+tidy-twice Waiting = refl
+
+pub held-holding : (n : Node) (xs : List ℕ) → MayBeHeld xs → heldOf (holding (tidied n) xs) ≡ xs
+unfolding tidied
+held-holding n xs h = held-again n (tidyMode (n .mode)) xs h
+
+pub tidied-holding : (n : Node) (xs : List ℕ) → MayBeHeld xs → tidied (holding (tidied n) xs) ≡ holding (tidied n) xs
+unfolding tidied
+tidied-holding n xs h =
+    ap₂ (λ (ys : List ℕ) (m : Mode). withMode (holding n ys) m) (held-again n (tidyMode (n .mode)) xs h) (tidy-twice (n .mode))
+
+-- ---- a tidied record in programming mode
 
 -- the tidied record in programming mode, with this staged
 abbrev pub programming : Node → Staged → Node
