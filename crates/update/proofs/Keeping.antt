@@ -3,8 +3,9 @@
 -- Assumes nothing.
 use mathlib.Core.Path.{_≡_, refl, ap}
 use mathlib.Core.List.{List, _++_}
-use Prim.Native.Nat.{ℕ, _+_}
-use lib.ListN.{length, take, replicate, length-set}
+use Prim.Native.Nat.{ℕ, _≤_}
+use lib.Dec.{lit≤}
+use lib.ListN.{length, replicate, length-set}
 use Rattle.base.proofs.Choice.{by-cond}
 use Rattle.address.specs.Places.{eepromCell, bootfl}
 use Rattle.address.specs.declared.Address.the-variants.{Flash, Eeprom}
@@ -22,34 +23,34 @@ pub record Kept (t : Node) (s : Step) (flash eeprom : List ℕ) : Type 0 where
   pub sameHeld : heldOf (s .answer .node) ≡ heldOf t
   pub sameFlash : length (s .flash) ≡ length flash
   pub sameEeprom : length (s .eeprom) ≡ length eeprom
-  pub twelve : length (take 12 (s .answer .replies)) ≡ 12
+  pub twelve : 12 ≤ length (s .answer .replies)
 
 module _ (t : Node) (f flash eeprom : List ℕ) where
   still : (s : Step) → s .answer .node .pin ≡ t .pin → heldOf (s .answer .node) ≡ heldOf t → s .flash ≡ flash → s .eeprom ≡ eeprom
-      → length (take 12 (s .answer .replies)) ≡ 12 → Kept t s flash eeprom
+      → 12 ≤ length (s .answer .replies) → Kept t s flash eeprom
   still s p h a b l = record { samePin = p; sameHeld = h; sameFlash = ap length a; sameEeprom = ap length b; twelve = l }
 
   pub kept : (a : Action) → Kept t (acted t a f flash eeprom) flash eeprom
   unfolding acted heldOf
-  kept (Refuse number) = still _ refl refl refl refl refl
-  kept Unstage = still _ refl refl refl refl refl
+  kept (Refuse number) = still _ refl refl refl refl (lit≤ tt)
+  kept Unstage = still _ refl refl refl refl (lit≤ tt)
   kept Enter =
-      record { samePin = refl; sameHeld = refl; sameFlash = refl; sameEeprom = length-set eeprom (eepromCell bootfl) 0xFF; twelve = refl }
-  kept Wait = still _ refl refl refl refl refl
-  kept Hardware = still _ refl refl refl refl refl
+      record { samePin = refl; sameHeld = refl; sameFlash = refl; sameEeprom = length-set eeprom (eepromCell bootfl) 0xFF; twelve = lit≤ tt }
+  kept Wait = still _ refl refl refl refl (lit≤ tt)
+  kept Hardware = still _ refl refl refl refl (lit≤ tt)
   kept Firmware =
       still _ refl refl refl refl
-      (by-cond (λ (r : List ℕ). length (take 12 (r ++ replicate 12 0)) ≡ 12) (isFirmwareError (typeOf f) (t .mode))
-      (replyOf t 0x1F1 (firmwareErrorData flash)) (replyOf t (typeOf f) (firmwareData flash)) (λ _. refl) (λ _. refl))
-  kept Describe = still _ refl refl refl refl refl
-  kept Device = still _ refl refl refl refl refl
+      (by-cond (λ (r : List ℕ). 12 ≤ length (r ++ replicate 12 0)) (isFirmwareError (typeOf f) (t .mode))
+      (replyOf t 0x1F1 (firmwareErrorData flash)) (replyOf t (typeOf f) (firmwareData flash)) (λ _. lit≤ tt) (λ _. lit≤ tt))
+  kept Describe = still _ refl refl refl refl (lit≤ tt)
+  kept Device = still _ refl refl refl refl (lit≤ tt)
   kept Leave =
-      record { samePin = refl; sameHeld = refl; sameFlash = refl; sameEeprom = length-set eeprom (eepromCell bootfl) 0x00; twelve = refl }
-  kept (Stage s) = still _ refl refl refl refl refl
-  kept (Show a) = still _ refl refl refl refl refl
+      record { samePin = refl; sameHeld = refl; sameFlash = refl; sameEeprom = length-set eeprom (eepromCell bootfl) 0x00; twelve = lit≤ tt }
+  kept (Stage s) = still _ refl refl refl refl (lit≤ tt)
+  kept (Show a) = still _ refl refl refl refl (lit≤ tt)
   kept (Put (Flash a)) =
-      record { samePin = refl; sameHeld = refl; sameFlash = written-length flash (a .0) _; sameEeprom = refl; twelve = refl }
+      record { samePin = refl; sameHeld = refl; sameFlash = written-length flash (a .0) _; sameEeprom = refl; twelve = lit≤ tt }
   kept (Put (Eeprom p)) =
-      record { samePin = refl; sameHeld = refl; sameFlash = refl; sameEeprom = eeprom-written-length eeprom (p .0) _; twelve = refl }
+      record { samePin = refl; sameHeld = refl; sameFlash = refl; sameEeprom = eeprom-written-length eeprom (p .0) _; twelve = lit≤ tt }
   kept (Clear a) =
-      record { samePin = refl; sameHeld = refl; sameFlash = erased-length flash (a .0); sameEeprom = refl; twelve = refl }
+      record { samePin = refl; sameHeld = refl; sameFlash = erased-length flash (a .0); sameEeprom = refl; twelve = lit≤ tt }

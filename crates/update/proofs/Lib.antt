@@ -11,3 +11,4 @@ pub mod Tight
 pub mod Whole
 pub mod Keeping
 pub mod Serially
+pub mod SerialCalls

@@ -7,9 +7,12 @@ use mathlib.Core.List.{List, [], _∷_, _++_, map, append-assoc, append-nil}
 use Prim.Native.Nat.{ℕ, _+_, _%_, _≤_}
 use native.Mathlib.Omega.{arith}
 use lib.Dec.{eqb, ltb}
-use lib.ListN.{length, take, drop, getD, replicate, length-append}
+use lib.ListN.{length, take, getD, replicate, length-append}
 use lib.Seq.{take-at}
-use borrow.Author.Tests.{lt-ltb, le-ltb}
+use borrow.Author.Tests.{eq-eqb, lt-ltb, le-ltb}
+use Rattle.base.specs.Parts.{listed}
+use Rattle.base.proofs.Choice.{true-both}
+use Rattle.base.proofs.Listed.{listed-part}
 use Rattle.address.specs.Places.{full}
 use Rattle.frames.specs.Wrapping.{sumOf, wrappedOf}
 use Rattle.frames.proofs.Wrapped.{wrapped-length, wrapped-inner, wrapped-right}
@@ -20,8 +23,7 @@ use Rattle.rules.specs.Record.{holding, withMode, heldOf, tidyMode, tidied}
 use Rattle.rules.specs.Outcomes.{isDeaf, decided}
 use Rattle.rules.specs.Step.{Step, acted, obeyed, canStep}
 use Rattle.rules.specs.Uart.{UartStep, taken, isClosed, onUart, viaUart, silent, received, uartTidy, uartStep}
-use Rattle.rules.proofs.TidiedOnce.{MayBeHeld, none, some, tidied-holding, held-holding}
-use Rattle.rules.proofs.Pairs.{sized}
+use Rattle.rules.proofs.Tidying.{Holdable, held-held, mode-twice, holding-tidy}
 use Rattle.recipe.specs.Items.{Recipe, Legal}
 use Rattle.recipe.specs.Frames.{itemsFrames, framesOf, joined}
 use Rattle.recipe.specs.Plain.{Memories}
@@ -38,6 +40,10 @@ deaf-refuses : (t : Node) (f flash eeprom : List ℕ) → isDeaf (t .mode) ≡ t
 unfolding decided
 deaf-refuses t f flash eeprom e = simp e
 
+mode-tidied : (n : Node) → tidyMode (tidied n .mode) ≡ tidied n .mode
+unfolding tidied
+mode-tidied n = mode-twice (n .mode)
+
 pin-tidied : (n : Node) → tidied n .pin ≡ n .pin
 unfolding tidied
 pin-tidied n = refl
@@ -47,20 +53,23 @@ unfolding tidied
 none-holding n e = ap (λ (xs : List ℕ). withMode (holding n xs) (tidyMode (n .mode))) e
 
 -- what is told on UART of an answer, from what is told of it on CAN
-told-wrapped : (a : Answer) → length (take 12 (a .replies)) ≡ 12 → toldOnUart (onUart a) ≡ wrappedTold (told a)
+told-wrapped : (a : Answer) → 12 ≤ length (a .replies) → toldOnUart (onUart a) ≡ wrappedTold (told a)
 told-wrapped a l =
-    ap (λ (x : List ℕ). a .number ∷ a .count ∷ x) (go (eqb (a .count) 0) (eqb (a .count) 1))
+    ap (λ (x : List ℕ). a .number ∷ a .count ∷ x)
+    (go (wrappedOf (listed (a .replies) 0 12)) (wrapped-length (listed (a .replies) 0 12) refl) (eqb (a .count) 0) (eqb (a .count) 1)
+    ∙ ap (λ (x : List ℕ). cond (eqb (a .count) 0) (replicate 15 0) (wrappedOf x)) (listed-part (a .replies) 0 12 l))
   where
-    go : (b c : Bool)
-        → take 15 (cond b (replicate 30 0) (cond c (wrappedOf (take 12 (a .replies)) ++ replicate 15 0) (wrappedOf (take 12 (a .replies)) ++ wrappedOf (drop 12 (a .replies)))))
-        ≡ cond b (replicate 15 0) (wrappedOf (take 12 (a .replies)))
-    go true c = refl
-    go false true = take-at (wrappedOf (take 12 (a .replies))) (replicate 15 0) 15 (wrapped-length (take 12 (a .replies)) l)
-    go false false = take-at (wrappedOf (take 12 (a .replies))) (wrappedOf (drop 12 (a .replies))) 15 (wrapped-length (take 12 (a .replies)) l)
+    go : (w : List ℕ) → length w ≡ 15 → (b c : Bool)
+        → take 15 (cond b (replicate 30 0) (cond c (w ++ replicate 15 0) (w ++ wrappedOf (listed (a .replies) 12 12)))) ≡ cond b (replicate 15 0) w
+    go w k true c = refl
+    go w k false true = take-at w (replicate 15 0) 15 k
+    go w k false false = take-at w (wrappedOf (listed (a .replies) 12 12)) 15 k
 
 module _ (n : Node) (flash eeprom : List ℕ) (o : OpenPort n flash eeprom) where
   is-full : full flash eeprom ≡ true
-  is-full = sized flash eeprom (o .flashFull) (o .eepromFull)
+  is-full =
+      true-both (eqb (length flash) 65536) (eqb (length eeprom) 1024) (eq-eqb (length flash) 65536 (o .flashFull))
+      (eq-eqb (length eeprom) 1024 (o .eepromFull))
 
   -- on CAN the tidied node obeys
   can-obeyed : (f : List ℕ) → canStep n f flash eeprom ≡ obeyed (tidied n) f flash eeprom
@@ -80,11 +89,11 @@ module _ (n : Node) (flash eeprom : List ℕ) (o : OpenPort n flash eeprom) wher
 
   -- what comes after a frame is open again
   stays-open : (f : List ℕ) → let s = canStep n f flash eeprom in
-      OpenPort (s .answer .node) (s .flash) (s .eeprom) × (length (take 12 (s .answer .replies)) ≡ 12)
+      OpenPort (s .answer .node) (s .flash) (s .eeprom) × (12 ≤ length (s .answer .replies))
   stays-open f =
       rw (can-obeyed f)
       (let k = kept (tidied n) f flash eeprom (decided (tidied n) f) in
-      let empty : heldOf (tidied n) ≡ [] = ap heldOf (none-holding n (o .noneHeld)) ∙ held-holding n [] none in (
+      let empty : heldOf (tidied n) ≡ [] = ap heldOf (none-holding n (o .noneHeld)) ∙ held-held (tidied n) [] tt in (
         record {
           bothPorts = k .samePin ∙ pin-tidied n ∙ o .bothPorts;
           noneHeld = k .sameHeld ∙ empty;
@@ -96,28 +105,28 @@ module _ (n : Node) (flash eeprom : List ℕ) (o : OpenPort n flash eeprom) wher
 
   module _ (hears : isDeaf (tidied n .mode) ≡ false) where
     -- a byte to a node that holds xs
-    byte-to : (xs : List ℕ) → MayBeHeld xs → (b : ℕ)
+    byte-to : (xs : List ℕ) → Holdable xs → (b : ℕ)
         → uartTidy (holding (tidied n) xs) b flash eeprom ≡ received (holding (tidied n) xs) (taken xs b) flash eeprom
     byte-to xs h b =
         let heeded : isClosed (tidied n .pin) ≡ false = ap isClosed (pin-tidied n ∙ o .bothPorts) in
-        simp (is-full, heeded, hears, held-holding n xs h)
+        simp (is-full, heeded, hears, held-held (tidied n) xs h)
 
-    byte-held : (xs : List ℕ) → MayBeHeld xs → (b : ℕ)
+    byte-held : (xs : List ℕ) → Holdable xs → (b : ℕ)
         → uartStep (holding (tidied n) xs) b flash eeprom ≡ received (holding (tidied n) xs) (taken xs b) flash eeprom
     unfolding uartStep
-    byte-held xs h b = ap (λ (m : Node). uartTidy m b flash eeprom) (tidied-holding n xs h) ∙ byte-to xs h b
+    byte-held xs h b = ap (λ (m : Node). uartTidy m b flash eeprom) (holding-tidy (tidied n) xs h (mode-tidied n)) ∙ byte-to xs h b
 
     -- "the receiver skips bytes until 0xAA": a frame's first byte is held
     first-byte : uartStep n 0xAA flash eeprom ≡ silent 10 (holding (tidied n) (0xAA ∷ [])) flash eeprom
     unfolding uartStep
-    first-byte = ap (λ (m : Node). uartTidy m 0xAA flash eeprom) (none-holding n (o .noneHeld)) ∙ byte-to [] none 0xAA
+    first-byte = ap (λ (m : Node). uartTidy m 0xAA flash eeprom) (none-holding n (o .noneHeld)) ∙ byte-to [] tt 0xAA
 
     -- "then collects 14 more"
     more-byte : (ys : List ℕ) (b : ℕ) → length ys ≤ 12
         → uartStep (holding (tidied n) (0xAA ∷ ys)) b flash eeprom ≡ silent 10 (holding (tidied n) (0xAA ∷ (ys ++ (b ∷ [])))) flash eeprom
     more-byte ys b l =
         let short : ltb (length (0xAA ∷ (ys ++ (b ∷ [])))) 15 ≡ true = lt-ltb (length (0xAA ∷ (ys ++ (b ∷ [])))) 15 (omega (arith, length-append ys (b ∷ []))) in
-        byte-held (0xAA ∷ ys) (some ys (omega arith)) b ∙ simp short
+        byte-held (0xAA ∷ ys) (refl, omega arith) b ∙ simp short
 
     collects : (bs zs ys : List ℕ) → length ys + length bs ≤ 13
         → fed (bs ++ zs) (holding (tidied n) (0xAA ∷ ys)) flash eeprom
@@ -139,7 +148,7 @@ module _ (n : Node) (flash eeprom : List ℕ) (o : OpenPort n flash eeprom) wher
         let does : received (holding (tidied n) (0xAA ∷ ys)) (wrappedOf f) flash eeprom
         ≡ viaUart (obeyed (holding (tidied n) []) f flash eeprom) =
         simp (whole, wrapped-right f l, wrapped-inner f l) in
-        byte-held (0xAA ∷ ys) (some ys (omega arith)) b
+        byte-held (0xAA ∷ ys) (refl, omega arith) b
         ∙ ap (λ (w : List ℕ). received (holding (tidied n) (0xAA ∷ ys)) w flash eeprom) e
         ∙ does
         ∙ ap (λ (m : Node). viaUart (obeyed m f flash eeprom)) (sym (none-holding n (o .noneHeld)))
