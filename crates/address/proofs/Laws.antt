@@ -6,13 +6,14 @@ use mathlib.Core.Bool.{Bool, true, false, _&&_, cond, false≢true}
 use Prim.Native.Nat.{ℕ, _+_, _*_, _%_, _≤_, _<_}
 use native.Mathlib.Nat.{suc-ne-zero}
 use native.Mathlib.Omega.{arith}
+use mathlib.Core.Logic.{_⊎_, inl, inr}
 use lib.Dec.{leb, eqb}
 use borrow.Author.Tests.{leb-true, eqb-true, eq-eqb, le-leb}
 use Rattle.base.proofs.Choice.{by-cond, both-true, true-both}
 use Rattle.address.specs.declared.Address.the-variants.{Flash, Eeprom}
 use Rattle.address.specs.declared.Ruled.{Ruled}
 use Rattle.address.specs.declared.Ruled.the-variants.{Legal, Illegal}
-use Rattle.address.specs.Rule.{multipleIn, rim, lastFlashRow, lastBlock, firstEepromRow, lastEepromRow, inFlash, inEeprom, rowOf, blockOf, ruled, isFlash, isEeprom, legalFlash, legalEeprom, numbered}
+use Rattle.address.specs.Rule.{multipleIn, rim, lastFlashRow, lastBlock, firstEepromRow, lastEepromRow, inFlash, inEeprom, rowOf, blockOf, ruled, isFlash, isEeprom, isLegal, legalFlash, legalEeprom, numbered}
 
 multiple-in : (step low high a : ℕ) → multipleIn step low high a ≡ true → (low ≤ a) × (a ≤ high) × (a % step ≡ 0)
 multiple-in step low high a e =
@@ -144,3 +145,16 @@ pub zero-numbered : (full legal : Bool) → numbered full legal ≡ 0 → (full 
 zero-numbered true true e = (refl, refl)
 zero-numbered true false e = absurd (suc-ne-zero 7 e)
 zero-numbered false legal e = absurd (suc-ne-zero 0 e)
+
+-- a command that is legal anywhere is read, write or erase
+pub legal-command : (a command : ℕ) → isLegal (ruled a command) ≡ true → (command ≡ 0x01) ⊎ ((command ≡ 0x02) ⊎ (command ≡ 0x03))
+unfolding ruled
+legal-command a command h = go (eqb command 0x01) refl (eqb command 0x02) refl (eqb command 0x03) refl h
+  where
+    go : (x : Bool) → eqb command 0x01 ≡ x → (y : Bool) → eqb command 0x02 ≡ y → (z : Bool) → eqb command 0x03 ≡ z
+        → isLegal (cond x (rowOf a) (cond y (rowOf a) (cond z (blockOf a) Illegal))) ≡ true
+        → (command ≡ 0x01) ⊎ ((command ≡ 0x02) ⊎ (command ≡ 0x03))
+    go true p y q z r t = inl (eqb-true command 0x01 p)
+    go false p true q z r t = inr (inl (eqb-true command 0x02 q))
+    go false p false q true r t = inr (inr (eqb-true command 0x03 r))
+    go false p false q false r t = absurd (false≢true t)

@@ -1,4 +1,5 @@
 pub mod Listening
 pub mod AnswerOne
 pub mod AnswerTwo
+pub mod Bystanders
 pub mod Tight

@@ -16,3 +16,4 @@ pub mod Modes
 pub mod Agreement
 pub mod Witnesses
 pub mod Pairs
+pub mod StaysTidy
