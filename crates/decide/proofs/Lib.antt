@@ -1,4 +1,2 @@
-pub mod Look
-pub mod Judged
-pub mod Kept
+pub mod Listed
 pub mod Tight

@@ -1,21 +1,13 @@
--- Any two outcomes that a contract allows for one input are equal: the whole result, and what is lent to be changed, afterwards.
--- The contracts are the generated `Reads`: nothing is said of a body.
+-- Any two outcomes that the contract allows for one input are equal: the whole result.
+-- The contract is the generated `Reads`: nothing is said of a body.
 use mathlib.Core.Path.{_≡_, _∙_, sym}
 use contract.Lifetimes.{Lfts}
 use borrow.Fn.World.{ArgsD, ResD}
 use denote.Triple.Clauses.{AtExit}
 use borrow.Fn.Kinds.{endedOf}
-use Rattle.decide.proofs.tidy.{signature as tidy-signature}
-use Rattle.decide.proofs.tidy.Kinds as tidy-kinds
-use Rattle.decide.proofs.tidy.Reads as tidy-reads
 use Rattle.decide.proofs.decide.{signature as decide-signature}
 use Rattle.decide.proofs.decide.Kinds as decide-kinds
 use Rattle.decide.proofs.decide.Reads as decide-reads
-
-pub tidy-tight : (κs : Lfts 0) (a : ArgsD tidy-signature κs) (r r′ : ResD tidy-signature κs)
-    (s s′ : AtExit (endedOf 0 tidy-kinds.ps tidy-kinds.r) κs)
-    → tidy-reads.Post κs a r s → tidy-reads.Post κs a r′ s′ → r ≡ r′
-tidy-tight κs a r r′ s s′ p q = p ∙ sym q
 
 pub decide-tight : (κs : Lfts 1) (a : ArgsD decide-signature κs) (r r′ : ResD decide-signature κs)
     (s s′ : AtExit (endedOf 1 decide-kinds.ps decide-kinds.r) κs)

@@ -1,44 +1,16 @@
-// What a frame comes to: the record is tidied, and the frame is judged by the outcome table's rows 3 to 9. No memory is read.
+// What a frame comes to: judged by the outcome table's rows 1 and 3 to 9, one after the other. No memory is read.
 mod request;
-mod table;
-mod tidying;
 
 ghost use mathlib.Core.Path.{_≡_};
-ghost use Rattle.rules.specs.Record.{tidied};
-ghost use Rattle.rules.specs.Outcomes.{isDeaf, decided};
-ghost use Rattle.decide.specs.Judged.{judgedKind};
+ghost use mathlib.Core.Bool.{cond};
+ghost use Rattle.rules.specs.Outcomes.{isDeaf, askedBy, decided};
+ghost use Rattle.decide.specs.Rows.{isElsewhere, isForeign};
 use rules::Action;
 use rules::Found;
-use rules::Kind;
 use rules::Mode;
 use rules::Node;
 
-// The tidied record: an illegal staged command is none, more than 14 held bytes or held bytes not starting with 0xAA are none, and
-// unused room is 0.
-pub fn tidy(n: Node) -> Node
-    ensures { λ r. ⌜ r ≡ tidied n ⌝ }
-{
-    let pin = n.pin;
-    let fixed = n.fixed;
-    let own = n.own;
-    let group = n.group;
-    let bytes = n.held;
-    let count = tidying::held_count(bytes, n.count);
-    let held = tidying::kept(bytes, count);
-    let old = n.mode;
-    let mode = tidying::tidy_mode(old);
-    Node {
-        pin,
-        fixed,
-        own,
-        group,
-        held,
-        count,
-        mode,
-    }
-}
-
-// Whether a mode takes no frame: error, or waiting for restart.
+// Row 3: the mode takes no frame, as it is error or waiting for restart.
 fn is_deaf(m: Mode) -> bool
     ensures { λ r. ⌜ r ≡ isDeaf m ⌝ }
 {
@@ -50,35 +22,63 @@ fn is_deaf(m: Mode) -> bool
     }
 }
 
-// A frame of a handled type: rows 6 to 9, or what it asks.
-fn decide_kind(n: Node, k: Kind, frame: &[u8]) -> Action
-    ensures { λ r. ⌜ r ≡ judgedKind n k (now (frame .entry)) ⌝ }
+// Row 6: the type is not handled in this mode.
+fn is_elsewhere(found: Found, m: Mode) -> bool
+    ensures { λ r. ⌜ r ≡ isElsewhere found m ⌝ }
 {
-    let handled = k.handled;
-    let mode = n.mode;
-    let addressing = k.addressing;
-    let asks = k.request;
-    let here = request::handled_here(handled, mode);
-    let ours = request::is_for(addressing, n, frame);
-    let action = request::asked(asks, mode, frame);
-    if here {
-        if ours {
-            return action;
+    match found {
+        Found::Handled(k) => {
+            let handled = k.handled;
+            !request::handled_here(handled, m)
         }
-        return Action::Refuse(7);
+        Found::Unhandled => true,
     }
-    Action::Refuse(6)
 }
 
-// What a frame comes to at a tidied node: the refusal of the first row that holds, or what it asks.
-pub fn decide(n: Node, frame: &[u8]) -> Action
-    ensures { λ r. ⌜ r ≡ decided n (now (frame .entry)) ⌝ }
+// Row 7: the frame is not for this node.
+fn is_foreign(found: Found, n: Node, frame: &[u8]) -> bool
+    ensures { λ r. ⌜ r ≡ isForeign found n (now (frame .entry)) ⌝ }
+{
+    match found {
+        Found::Handled(k) => {
+            let addressing = k.addressing;
+            !request::is_for(addressing, n, frame)
+        }
+        Found::Unhandled => true,
+    }
+}
+
+// What a frame comes to by its type: rows 8 and 9 are what the request itself comes to.
+fn asked_by(found: Found, n: Node, frame: &[u8]) -> Action
+    ensures { λ r. ⌜ r ≡ askedBy n (now (frame .entry)) found ⌝ }
+{
+    match found {
+        Found::Handled(k) => {
+            let asks = k.request;
+            let mode = n.mode;
+            request::asked(asks, mode, frame)
+        }
+        Found::Unhandled => Action::Refuse(6),
+    }
+}
+
+// What a frame comes to at a tidied node, with memories that fit (are both of full size) or not: the refusal of the first row that
+// holds, or what it asks.
+pub fn decide(n: Node, fits: bool, frame: &[u8]) -> Action
+    ensures { λ r. ⌜ r ≡ cond fits (decided n (now (frame .entry))) (Action.Refuse 1) ⌝ }
 {
     let mode = n.mode;
+    let short = !fits;
     let deaf = is_deaf(mode);
     let bad = request::misshapen(frame);
     let answer = request::is_response(frame);
     let found = table::look_up(request::type_of(frame));
+    let elsewhere = is_elsewhere(found, mode);
+    let foreign = is_foreign(found, n, frame);
+    let action = asked_by(found, n, frame);
+    if short {
+        return Action::Refuse(1);
+    }
     if deaf {
         return Action::Refuse(3);
     }
@@ -88,8 +88,11 @@ pub fn decide(n: Node, frame: &[u8]) -> Action
     if answer {
         return Action::Refuse(5);
     }
-    match found {
-        Found::Handled(k) => decide_kind(n, k, frame),
-        Found::Unhandled => Action::Refuse(6),
+    if elsewhere {
+        return Action::Refuse(6);
     }
+    if foreign {
+        return Action::Refuse(7);
+    }
+    action
 }

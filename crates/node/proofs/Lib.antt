@@ -1,3 +1,4 @@
+pub mod Obeying
 pub mod Listening
 pub mod AnswerOne
 pub mod AnswerTwo

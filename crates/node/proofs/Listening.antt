@@ -11,15 +11,16 @@ use lib.Dec.{eqb, ltb}
 use lib.ListN.{length, set, replicate, length-append}
 use lib.Seq.{set-at}
 use borrow.Author.Tests.{eq-eqb, ne-eqb, lt-ltb, le-ltb, ltb-true, ltb-false}
+use Rattle.address.specs.Places.{full}
 use Rattle.frames.specs.Wrapping.{innerOf, rightlyWrapped}
 use Rattle.frames.specs.Numbers.{unwrapNumber, outputAfter}
 use Rattle.rules.specs.declared.Node.{Node}
 use Rattle.rules.specs.Record.{padded, holding, withMode, heldOf, tidyMode, tidied}
 use Rattle.rules.specs.Outcomes.{isDeaf}
 use Rattle.rules.specs.Step.{obeyed}
-use Rattle.rules.specs.Uart.{UartStep, silent, viaUart, taken, incomplete, afterBad, received, isClosed, uartTidy}
+use Rattle.rules.specs.Uart.{UartStep, silent, viaUart, taken, incomplete, afterBad, received, isClosed, uartStep}
 use Rattle.rules.proofs.Tidying.{Holdable, held-holdable, holdable-few, tidy-held}
-use Rattle.node.specs.Listening.{heldWith, fifteen, wholeFrame, heard, listened}
+use Rattle.node.specs.Listening.{heldWith, fifteen, took, wholeFrame, listened}
 
 -- ---- the fifteenth byte
 
@@ -83,13 +84,17 @@ module _ (m : Node) (x : ℕ) (ys : List ℕ) (b : ℕ) (flash eeprom : List ℕ
       let lw : length w ≡ 15 = omega (arith, length-append (x ∷ ys) (b ∷ [])) in
       ap judged e ∙ simp (le-ltb (length w) 15 (omega arith), unwrap-right w lw)
 
+-- a byte to an open port
+heard : Node → ℕ → List ℕ → List ℕ → UartStep
+heard n b flash eeprom = cond (ltb (n .count) 14) (silent 10 (took n b) flash eeprom) (wholeFrame n b flash eeprom)
+
 -- a byte to a node that holds xs
 heard-right : (m : Node) (xs : List ℕ) (b : ℕ) (flash eeprom : List ℕ) → Holdable xs
     → heard (holding m xs) b flash eeprom ≡ received (holding m xs) (taken xs b) flash eeprom
 unfolding heard
 heard-right m [] b flash eeprom h = go (eqb b 0xAA)
   where
-    go : (t : Bool) → cond t (silent 10 (heldWith (holding m []) b) flash eeprom) (silent 10 (holding m []) flash eeprom)
+    go : (t : Bool) → silent 10 (cond t (heldWith (holding m []) b) (holding m [])) flash eeprom
         ≡ received (holding m []) (cond t (b ∷ []) []) flash eeprom
     go true = refl
     go false = refl
@@ -103,20 +108,27 @@ heard-right m (x ∷ ys) b flash eeprom h = go (ltb (length (x ∷ ys)) 14) refl
     go false e =
         let l = ltb-false (length (x ∷ ys)) 14 e in
         let f = holdable-few (x ∷ ys) h in
-        simp (ne-eqb (length (x ∷ ys)) 0 (suc-ne-zero (length ys)), e)
-        (last-heard m x ys b flash eeprom (omega arith))
+        simp e (last-heard m x ys b flash eeprom (omega arith))
 
--- a byte to a tidied node, over full memories
+-- a byte to a tidied node
 pub listened-right : (n : Node) (b : ℕ) (flash eeprom : List ℕ)
-    → listened (tidied n) b flash eeprom
-    ≡ cond (isClosed (n .pin)) (silent 2 (tidied n) flash eeprom)
-    (cond (isDeaf (tidyMode (n .mode))) (silent 3 (tidied n) flash eeprom)
-    (received (tidied n) (taken (heldOf (tidied n)) b) flash eeprom))
-unfolding listened tidied
-listened-right n b flash eeprom =
-    ap (λ (s : UartStep). cond (isClosed (n .pin)) (silent 2 (tidied n) flash eeprom) (cond (isDeaf (tidyMode (n .mode))) (silent 3 (tidied n) flash eeprom) s))
-    (heard-right (withMode n (tidyMode (n .mode))) (heldOf n) b flash eeprom (held-holdable n)
-    ∙ ap (λ (xs : List ℕ). received (tidied n) (taken xs b) flash eeprom) (sym (tidy-held n)))
+    → listened (tidied n) (full flash eeprom) b flash eeprom ≡ uartStep n b flash eeprom
+unfolding listened tidied uartStep heard
+listened-right n b flash eeprom = go (full flash eeprom)
+  where
+    ported : UartStep → UartStep
+    ported s =
+        cond (isClosed (n .pin)) (silent 2 (tidied n) flash eeprom)
+        (cond (isDeaf (tidyMode (n .mode))) (silent 3 (tidied n) flash eeprom) s)
+
+    go : (fits : Bool)
+        → cond (not fits) (silent 1 (tidied n) flash eeprom) (ported (heard (tidied n) b flash eeprom))
+        ≡ cond fits (ported (received (tidied n) (taken (heldOf (tidied n)) b) flash eeprom)) (silent 1 (tidied n) flash eeprom)
+    go true =
+        ap ported
+        (heard-right (withMode n (tidyMode (n .mode))) (heldOf n) b flash eeprom (held-holdable n)
+        ∙ ap (λ (xs : List ℕ). received (tidied n) (taken xs b) flash eeprom) (sym (tidy-held n)))
+    go false = refl
 
 -- at most 14 bytes are held
 pub tidied-few : (n : Node) → tidied n .count ≤ 14

@@ -1,6 +1,6 @@
 -- The UART rule as the code has it, on the record's own fields; proofs/Listening.antt shows that of a tidied record it is the rule.
 use Prim.Native.Nat.{ℕ, _+_}
-use mathlib.Core.Bool.{cond}
+use mathlib.Core.Bool.{Bool, not, cond}
 use mathlib.Core.List.{List, []}
 use lib.Dec.{eqb, ltb}
 use lib.ListN.{set, replicate}
@@ -34,12 +34,14 @@ wholeFrame n b flash eeprom =
     cond (eqb (unwrapNumber (fifteen n b) 12) 0) (viaUart (obeyed (holding n []) (innerOf (fifteen n b)) flash eeprom))
     (silent 11 (holding n []) flash eeprom)
 
-unfoldable pub heard : Node → ℕ → List ℕ → List ℕ → UartStep
-heard n b flash eeprom =
-    cond (eqb (n .count) 0) (cond (eqb b 0xAA) (silent 10 (heldWith n b) flash eeprom) (silent 10 n flash eeprom))
-    (cond (ltb (n .count) 14) (silent 10 (heldWith n b) flash eeprom) (wholeFrame n b flash eeprom))
+-- the record with a byte taken: held, or skipped where nothing is held and it isn't 0xAA
+abbrev pub took : Node → ℕ → Node
+took n b = cond (eqb (n .count) 0) (cond (eqb b 0xAA) (heldWith n b) n) (heldWith n b)
 
-unfoldable pub listened : Node → ℕ → List ℕ → List ℕ → UartStep
-listened n b flash eeprom =
-    cond (isClosed (n .pin)) (silent 2 n flash eeprom)
-    (cond (isDeaf (n .mode)) (silent 3 n flash eeprom) (heard n b flash eeprom))
+-- a byte to a tidied node: rows 1, 2, 3 and 10, and then the last byte of a frame
+unfoldable pub listened : Node → Bool → ℕ → List ℕ → List ℕ → UartStep
+listened n fits b flash eeprom =
+    cond (not fits) (silent 1 n flash eeprom)
+    (cond (isClosed (n .pin)) (silent 2 n flash eeprom)
+    (cond (isDeaf (n .mode)) (silent 3 n flash eeprom)
+    (cond (ltb (n .count) 14) (silent 10 (took n b) flash eeprom) (wholeFrame n b flash eeprom))))

@@ -1,10 +1,10 @@
 // The node: a fresh one, restart, a CAN frame and a UART byte. Each call takes any record, which it tidies, and lent memories of any
 // length; it asks nothing of its caller. The answer has the number of document 01, the replies and the node.
 mod acting;
-mod answers;
 mod port;
 
 ghost use mathlib.Core.Path.{_≡_};
+ghost use Rattle.address.specs.Places.{full};
 ghost use Rattle.rules.specs.Record.{freshNode};
 ghost use Rattle.rules.specs.Restart.{nodeAfter, modeAfter, restartStep};
 ghost use Rattle.rules.specs.Step.{after, canStep};
@@ -77,46 +77,42 @@ fn node_after(n: Node, pin: Pin, passed: bool, flash: &[u8], eeprom: &[u8]) -> N
     }
 }
 
+// Whether both memories have their full size.
+fn full(flash: &[u8], eeprom: &[u8]) -> bool
+    ensures { λ r. ⌜ r ≡ full (now (flash .entry)) (now (eeprom .entry)) ⌝ }
+{
+    if flash.len() == FLASH_CELLS {
+        return eeprom.len() == EEPROM_CELLS;
+    }
+    false
+}
+
 // Restart with this pin and the self-test's verdict. 1 where a memory has the wrong length: nothing is taken then, not even the pin.
 pub fn restart(node: Node, pin: Pin, passed: bool, flash: &[u8], eeprom: &[u8]) -> Restarted
     ensures { λ r. ⌜ r ≡ restartStep node pin passed (now (flash .entry)) (now (eeprom .entry)) ⌝ }
 {
-    if flash.len() != FLASH_CELLS {
-        let n = decide::tidy(node);
-        return Restarted { number: 1, node: n };
+    if full(flash, eeprom) {
+        let n = node_after(node, pin, passed, flash, eeprom);
+        return Restarted { number: 0, node: n };
     }
-    if eeprom.len() != EEPROM_CELLS {
-        let n = decide::tidy(node);
-        return Restarted { number: 1, node: n };
-    }
-    let n = node_after(node, pin, passed, flash, eeprom);
-    Restarted { number: 0, node: n }
+    let n = tidy::tidy(node);
+    Restarted { number: 1, node: n }
 }
 
 // A CAN frame, as its 12 HAPCAN bytes.
 pub fn can_frame(node: Node, frame: &[u8], flash: &mut [u8], eeprom: &mut [u8]) -> Answer
     ensures { λ r. ⌜ after r (now (flash .exit)) (now (eeprom .exit)) ≡ canStep node (now (frame .entry)) (now (flash .entry)) (now (eeprom .entry)) ⌝ }
 {
-    let n = decide::tidy(node);
-    if flash.len() != FLASH_CELLS {
-        return answers::quiet(1, n);
-    }
-    if eeprom.len() != EEPROM_CELLS {
-        return answers::quiet(1, n);
-    }
-    acting::obey(n, frame, flash, eeprom)
+    let n = tidy::tidy(node);
+    let fits = full(flash, eeprom);
+    acting::obey(n, fits, frame, flash, eeprom)
 }
 
 // A byte from UART.
 pub fn uart_byte(node: Node, byte: u8, flash: &mut [u8], eeprom: &mut [u8]) -> UartAnswer
     ensures { λ r. ⌜ uartAfter r (now (flash .exit)) (now (eeprom .exit)) ≡ uartStep node byte (now (flash .entry)) (now (eeprom .entry)) ⌝ }
 {
-    let n = decide::tidy(node);
-    if flash.len() != FLASH_CELLS {
-        return port::silent(1, n);
-    }
-    if eeprom.len() != EEPROM_CELLS {
-        return port::silent(1, n);
-    }
-    port::listen(n, byte, flash, eeprom)
+    let n = tidy::tidy(node);
+    let fits = full(flash, eeprom);
+    port::listen(n, fits, byte, flash, eeprom)
 }

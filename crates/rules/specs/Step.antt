@@ -47,28 +47,66 @@ abbrev pub eepromAfter : Address → List ℕ → List ℕ → List ℕ
 eepromAfter (Flash a) d eeprom = eeprom
 eepromAfter (Eeprom p) d eeprom = eepromWritten eeprom (p .0) d
 
--- 0x040's answer: "the reply data are the eight cells at the address after the command"
-abbrev pub shows : Node → ℕ → List ℕ → List ℕ → Step
-shows n a flash eeprom = after (one n (replyOf n 0x040 (shown flash eeprom a))) flash eeprom
+-- FLASH afterwards: only a staged write or erase changes it
+abbrev pub flashDone : Action → List ℕ → List ℕ → List ℕ
+flashDone (Refuse number) d flash = flash
+flashDone Unstage d flash = flash
+flashDone Enter d flash = flash
+flashDone Wait d flash = flash
+flashDone Hardware d flash = flash
+flashDone Firmware d flash = flash
+flashDone Describe d flash = flash
+flashDone Device d flash = flash
+flashDone Leave d flash = flash
+flashDone (Stage s) d flash = flash
+flashDone (Show a) d flash = flash
+flashDone (Put a) d flash = flashAfter a d flash
+flashDone (Clear a) d flash = flashErased flash (a .0)
 
--- what is done
+-- EEPROM afterwards: only BOOTFL, at 0x100, 0x010 and 0x020, and what a staged write says
+abbrev pub eepromDone : Action → List ℕ → List ℕ → List ℕ
+eepromDone (Refuse number) d eeprom = eeprom
+eepromDone Unstage d eeprom = eeprom
+eepromDone Enter d eeprom = bootflSet eeprom 0xFF
+eepromDone Wait d eeprom = eeprom
+eepromDone Hardware d eeprom = eeprom
+eepromDone Firmware d eeprom = eeprom
+eepromDone Describe d eeprom = eeprom
+eepromDone Device d eeprom = eeprom
+eepromDone Leave d eeprom = bootflSet eeprom 0x00
+eepromDone (Stage s) d eeprom = eeprom
+eepromDone (Show a) d eeprom = eeprom
+eepromDone (Put a) d eeprom = eepromAfter a d eeprom
+eepromDone (Clear a) d eeprom = eeprom
+
+-- 0x040's answer: "the reply data are the eight cells at the address after the command"
+abbrev pub showing : Node → ℕ → List ℕ → List ℕ → Answer
+showing n a flash eeprom = one n (replyOf n 0x040 (shown flash eeprom a))
+
+-- the number, the replies and the node, over the memories as they are afterwards
+abbrev pub answered : Node → Action → List ℕ → List ℕ → List ℕ → Answer
+answered n (Refuse number) f flash eeprom = quiet number n
+answered n Unstage f flash eeprom = quiet 8 (withMode n (Programming Nothing))
+answered n Enter f flash eeprom = one (withMode n (Programming Nothing)) (replyOf n 0x100 enteredData)
+answered n Wait f flash eeprom = quiet 0 (withMode n Waiting)
+answered n Hardware f flash eeprom = one n (replyOf n (typeOf f) (hardwareData n))
+answered n Firmware f flash eeprom = one n (firmwareReply n (typeOf f) flash)
+answered n Describe f flash eeprom =
+    two n (replyOf n (typeOf f) (descriptionData 0 eeprom)) (replyOf n (typeOf f) (descriptionData 8 eeprom))
+answered n Device f flash eeprom = one n (replyOf n (typeOf f) (deviceData n))
+answered n Leave f flash eeprom = quiet 0 (withMode n Waiting)
+answered n (Stage s) f flash eeprom = one (withMode n (Programming s)) (replyOf n 0x030 (dataIn f))
+answered n (Show a) f flash eeprom = showing n (numberOf a) flash eeprom
+answered n (Put a) f flash eeprom = showing n (numberOf a) flash eeprom
+answered n (Clear a) f flash eeprom = showing n (a .0) flash eeprom
+
+-- what is done: the memories change, and the answer is given over them
 unfoldable pub acted : Node → Action → List ℕ → List ℕ → List ℕ → Step
-acted n (Refuse number) f flash eeprom = after (quiet number n) flash eeprom
-acted n Unstage f flash eeprom = after (quiet 8 (withMode n (Programming Nothing))) flash eeprom
-acted n Enter f flash eeprom =
-    after (one (withMode n (Programming Nothing)) (replyOf n 0x100 enteredData)) flash (bootflSet eeprom 0xFF)
-acted n Wait f flash eeprom = after (quiet 0 (withMode n Waiting)) flash eeprom
-acted n Hardware f flash eeprom = after (one n (replyOf n (typeOf f) (hardwareData n))) flash eeprom
-acted n Firmware f flash eeprom = after (one n (firmwareReply n (typeOf f) flash)) flash eeprom
-acted n Describe f flash eeprom =
-    after (two n (replyOf n (typeOf f) (descriptionData 0 eeprom)) (replyOf n (typeOf f) (descriptionData 8 eeprom))) flash eeprom
-acted n Device f flash eeprom = after (one n (replyOf n (typeOf f) (deviceData n))) flash eeprom
-acted n Leave f flash eeprom = after (quiet 0 (withMode n Waiting)) flash (bootflSet eeprom 0x00)
-acted n (Stage s) f flash eeprom = after (one (withMode n (Programming s)) (replyOf n 0x030 (dataIn f))) flash eeprom
-acted n (Show a) f flash eeprom = shows n (numberOf a) flash eeprom
-acted n (Put a) f flash eeprom =
-    shows n (numberOf a) (flashAfter a (dataIn f) flash) (eepromAfter a (dataIn f) eeprom)
-acted n (Clear a) f flash eeprom = shows n (a .0) (flashErased flash (a .0)) eeprom
+acted n a f flash eeprom =
+    after
+    (answered n a f (flashDone a (dataIn f) flash) (eepromDone a (dataIn f) eeprom))
+    (flashDone a (dataIn f) flash)
+    (eepromDone a (dataIn f) eeprom)
 
 -- a frame to a tidied node over full memories
 abbrev pub obeyed : Node → List ℕ → List ℕ → List ℕ → Step

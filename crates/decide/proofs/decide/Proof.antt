@@ -1,10 +1,19 @@
--- `decide::decide` meets its contract: the tests come in the order of the rows, and a frame of a handled type goes on with row 6.
+-- `decide::decide` meets its contract: the tests come in the order of the rows, each a flag of what its row says.
 -- Assumes nothing.
-use Rattle.rules.specs.Outcomes.{decided}
-use Rattle.decide.specs.Judged.{judgedKind}
+use Rattle.decide.proofs.Listed.{decided-listed}
 use borrow.Author.Needs.{needs}
 use Rattle.decide.proofs.decide.Statement.{statement}
 use Rattle.decide.proofs.decide.Tie as tie
+use Rattle.decide.proofs.decide.Reads as reads
+use Rattle.decide.proofs.decide.Lts as lts
+use Rattle.decide.proofs.asked_by.Reads as asked-by-reads
+use Rattle.decide.proofs.is_deaf.Reads as is-deaf-reads
+use Rattle.decide.proofs.is_elsewhere.Reads as is-elsewhere-reads
+use Rattle.decide.proofs.is_foreign.Reads as is-foreign-reads
+use Rattle.decide.proofs.request.is_response.Reads as is-response-reads
+use Rattle.decide.proofs.request.misshapen.Reads as misshapen-reads
+use Rattle.decide.proofs.request.type_of.Reads as type-of-reads
+use Rattle.table.proofs.look_up.Reads as look-up-reads
 
 is-deaf-requires : tie.Need-is-deaf-requires
 is-deaf-requires c κs = search needs
@@ -21,38 +30,49 @@ type-of-requires c κs = search needs
 look-up-requires : tie.Need-look-up-requires
 look-up-requires c κs = search needs
 
+is-elsewhere-requires : tie.Need-is-elsewhere-requires
+is-elsewhere-requires c κs = search needs
+
+is-foreign-requires : tie.Need-is-foreign-requires
+is-foreign-requires c κs = search needs
+
+asked-by-requires : tie.Need-asked-by-requires
+asked-by-requires c κs = search needs
+
 returns : tie.Need-returns
-unfolding decided
-returns c = simp (← c .before .before .before .before .before .is-deaf .ensures, c .if1 .taken)
+returns c =
+    rw (decided-listed (c .before .before .before .before .before .before .before .before .before .before .args .n) (c .before .before .before .before .before .before .before .before .before .before .args .fits) (c .before .before .before .before .before .before .before .before .before .before .args .frame .now))
+    (simp (c .if1 .taken))
 
 returns-2 : tie.Need-returns-2
-unfolding decided
-returns-2 c = simp (← c .before .before .before .before .before .before .is-deaf .ensures, c .before .if1 .left, ← c .before .before .before .before .before .misshapen .ensures, c .if2 .taken)
+returns-2 c =
+    rw (decided-listed (c .before .before .before .before .before .before .before .before .before .before .before .args .n) (c .before .before .before .before .before .before .before .before .before .before .before .args .fits) (c .before .before .before .before .before .before .before .before .before .before .before .args .frame .now))
+    (simp (c .before .if1 .left, ← c .before .before .before .before .before .before .before .before .before .is-deaf .ensures, c .if2 .taken))
 
 returns-3 : tie.Need-returns-3
-unfolding decided
-returns-3 c = simp (← c .before .before .before .before .before .before .before .is-deaf .ensures, c .before .before .if1 .left, ← c .before .before .before .before .before .before .misshapen .ensures, c .before .if2 .left, ← c .before .before .before .before .before .is-response .ensures, c .if3 .taken)
-
-enum-known-found : tie.Need-enum-known-found
-enum-known-found c = search needs
-
-decide-kind-requires : tie.Need-decide-kind-requires
-decide-kind-requires c κs = search needs
-
-enum-told : tie.Need-enum-told
-enum-told c = search needs
+returns-3 c =
+    rw (decided-listed (c .before .before .before .before .before .before .before .before .before .before .before .before .args .n) (c .before .before .before .before .before .before .before .before .before .before .before .before .args .fits) (c .before .before .before .before .before .before .before .before .before .before .before .before .args .frame .now))
+    (simp (c .before .before .if1 .left, ← c .before .before .before .before .before .before .before .before .before .before .is-deaf .ensures, c .before .if2 .left, ← c .before .before .before .before .before .before .before .before .before .misshapen .ensures, c .if3 .taken))
 
 returns-4 : tie.Need-returns-4
-unfolding decided judgedKind
 returns-4 c =
-    simp (← c .before .before .before .before .before .before .before .before .before .before .before .is-deaf .ensures, c .before .before .before .before .before .before .if1 .left, ← c .before .before .before .before .before .before .before .before .before .before .misshapen .ensures, c .before .before .before .before .before .if2 .left, ← c .before .before .before .before .before .before .before .before .before .is-response .ensures, c .before .before .before .before .if3 .left)
-    (simp (← c .before .before .before .before .before .before .before .before .type-of .ensures, ← c .before .before .before .before .before .before .before .look-up .ensures, c .before .before .found .given .1) (c .decide-kind .ensures))
+    rw (decided-listed (c .before .before .before .before .before .before .before .before .before .before .before .before .before .args .n) (c .before .before .before .before .before .before .before .before .before .before .before .before .before .args .fits) (c .before .before .before .before .before .before .before .before .before .before .before .before .before .args .frame .now))
+    (simp (c .before .before .before .if1 .left, ← c .before .before .before .before .before .before .before .before .before .before .before .is-deaf .ensures, c .before .before .if2 .left, ← c .before .before .before .before .before .before .before .before .before .before .misshapen .ensures, c .before .if3 .left, ← c .before .before .before .before .before .before .before .before .before .is-response .ensures, c .if4 .taken))
 
 returns-5 : tie.Need-returns-5
-unfolding decided
 returns-5 c =
-    simp (← c .before .before .before .before .before .before .before .before .before .is-deaf .ensures, c .before .before .before .before .if1 .left, ← c .before .before .before .before .before .before .before .before .misshapen .ensures, c .before .before .before .if2 .left, ← c .before .before .before .before .before .before .before .is-response .ensures, c .before .before .if3 .left)
-    (simp (← c .before .before .before .before .before .before .type-of .ensures, ← c .before .before .before .before .before .look-up .ensures, c .enum-told .given .1))
+    rw (decided-listed (c .before .before .before .before .before .before .before .before .before .before .before .before .before .before .args .n) (c .before .before .before .before .before .before .before .before .before .before .before .before .before .before .args .fits) (c .before .before .before .before .before .before .before .before .before .before .before .before .before .before .args .frame .now))
+    (simp (c .before .before .before .before .if1 .left, ← c .before .before .before .before .before .before .before .before .before .before .before .before .is-deaf .ensures, c .before .before .before .if2 .left, ← c .before .before .before .before .before .before .before .before .before .before .before .misshapen .ensures, c .before .before .if3 .left, ← c .before .before .before .before .before .before .before .before .before .before .is-response .ensures, c .before .if4 .left, ← c .before .before .before .before .before .before .before .before .before .type-of .ensures, ← c .before .before .before .before .before .before .before .before .look-up .ensures, ← c .before .before .before .before .before .before .before .is-elsewhere .ensures, c .if5 .taken))
+
+returns-6 : tie.Need-returns-6
+returns-6 c =
+    rw (decided-listed (c .before .before .before .before .before .before .before .before .before .before .before .before .before .before .before .args .n) (c .before .before .before .before .before .before .before .before .before .before .before .before .before .before .before .args .fits) (c .before .before .before .before .before .before .before .before .before .before .before .before .before .before .before .args .frame .now))
+    (simp (c .before .before .before .before .before .if1 .left, ← c .before .before .before .before .before .before .before .before .before .before .before .before .before .is-deaf .ensures, c .before .before .before .before .if2 .left, ← c .before .before .before .before .before .before .before .before .before .before .before .before .misshapen .ensures, c .before .before .before .if3 .left, ← c .before .before .before .before .before .before .before .before .before .before .before .is-response .ensures, c .before .before .if4 .left, ← c .before .before .before .before .before .before .before .before .before .before .type-of .ensures, ← c .before .before .before .before .before .before .before .before .before .look-up .ensures, ← c .before .before .before .before .before .before .before .before .is-elsewhere .ensures, c .before .if5 .left, ← c .before .before .before .before .before .before .before .is-foreign .ensures, c .if6 .taken))
+
+returns-7 : tie.Need-returns-7
+returns-7 c =
+    rw (decided-listed (c .before .before .before .before .before .before .before .before .before .before .before .before .before .before .before .args .n) (c .before .before .before .before .before .before .before .before .before .before .before .before .before .before .before .args .fits) (c .before .before .before .before .before .before .before .before .before .before .before .before .before .before .before .args .frame .now))
+    (simp (c .before .before .before .before .before .if1 .left, ← c .before .before .before .before .before .before .before .before .before .before .before .before .before .is-deaf .ensures, c .before .before .before .before .if2 .left, ← c .before .before .before .before .before .before .before .before .before .before .before .before .misshapen .ensures, c .before .before .before .if3 .left, ← c .before .before .before .before .before .before .before .before .before .before .before .is-response .ensures, c .before .before .if4 .left, ← c .before .before .before .before .before .before .before .before .before .before .type-of .ensures, ← c .before .before .before .before .before .before .before .before .before .look-up .ensures, ← c .before .before .before .before .before .before .before .before .is-elsewhere .ensures, c .before .if5 .left, ← c .before .before .before .before .before .before .before .is-foreign .ensures, c .if6 .left, ← c .before .before .before .before .before .before .asked-by .ensures))
 
 pub decide-spec : {M : Type 1} → statement M
 decide-spec =
@@ -63,11 +83,13 @@ decide-spec =
     is-response-requires
     type-of-requires
     look-up-requires
+    is-elsewhere-requires
+    is-foreign-requires
+    asked-by-requires
     returns
     returns-2
     returns-3
-    enum-known-found
-    decide-kind-requires
-    enum-told
     returns-4
-    returns-5)
+    returns-5
+    returns-6
+    returns-7)

@@ -1,33 +1,32 @@
--- `node::restart` meets its contract: 1 for a wrong length, else the record after a restart.
+-- `node::restart` meets its contract: over full memories the record after a restart, else 1.
 -- Assumes nothing.
-use borrow.Author.Tests.{eq-eqb, ne-eqb}
 use Rattle.rules.specs.Restart.{restartStep}
 use borrow.Author.Needs.{needs}
 use Rattle.node.proofs.restart.Statement.{statement}
 use Rattle.node.proofs.restart.Tie as tie
+use Rattle.node.proofs.restart.Reads as reads
+use Rattle.node.proofs.restart.Lts as lts
+use Rattle.node.proofs.full.Reads as full-reads
+use Rattle.node.proofs.node_after.Reads as node-after-reads
+use Rattle.tidy.proofs.tidy.Reads as tidy-reads
 
-tidy-requires : tie.Need-tidy-requires
-tidy-requires c κs = search needs
-
-returns : tie.Need-returns
-unfolding restartStep
-returns c = simp (ne-eqb _ 65536 (c .before .if1 .taken), c .tidy .ensures)
-
-tidy-requires-2 : tie.Need-tidy-requires-2
-tidy-requires-2 c κs = search needs
-
-returns-2 : tie.Need-returns-2
-unfolding restartStep
-returns-2 c = simp (eq-eqb _ 65536 (c .before .before .if1 .left), ne-eqb _ 1024 (c .before .if2 .taken), c .tidy2 .ensures)
+full-requires : tie.Need-full-requires
+full-requires c κs = search needs
 
 node-after-requires : tie.Need-node-after-requires
 node-after-requires c κs = search needs
 
-returns-3 : tie.Need-returns-3
+returns : tie.Need-returns
 unfolding restartStep
-returns-3 c = simp (eq-eqb _ 65536 (c .before .before .if1 .left), eq-eqb _ 1024 (c .before .if2 .left), c .node-after .ensures)
+returns c = simp (← c .before .before .full .ensures, c .before .if1 .taken, c .node-after .ensures)
+
+tidy-requires : tie.Need-tidy-requires
+tidy-requires c κs = search needs
+
+returns-2 : tie.Need-returns-2
+unfolding restartStep
+returns-2 c = simp (← c .before .before .full .ensures, c .before .if1 .left, c .tidy .ensures)
 
 pub restart-spec : {M : Type 1} → statement M
 restart-spec =
-    tie.close
-    (tie.spec tidy-requires returns tidy-requires-2 returns-2 node-after-requires returns-3)
+    tie.close (tie.spec full-requires node-after-requires returns tidy-requires returns-2)
