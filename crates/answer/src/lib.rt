@@ -6,7 +6,7 @@ ghost use mathlib.Core.Path.{_≡_};
 ghost use Prim.Native.Nat.{_<_};
 ghost use Rattle.frames.specs.Frame.{typeOf};
 ghost use Rattle.rules.specs.Replies.{replyOf, hasStarted, firmwareReply, descriptionData, one, two};
-ghost use Rattle.rules.specs.Step.{numberOf, showing, answered};
+ghost use Rattle.rules.specs.Step.{numberOf, showing, answerTo};
 use address::Address;
 use address::DESCRIPTION;
 use address::EEPROM_FIRST;
@@ -85,7 +85,7 @@ fn show_cells<'a>(n: Node, at: u32, flash: &'a [u8], eeprom: &'a [u8]) -> Answer
 
 // The answer to an action, over the memories as it left them.
 pub fn answer<'a>(n: Node, a: Action, frame: &[u8], flash: &'a [u8], eeprom: &'a [u8]) -> Answer
-    ensures { λ r. ⌜ r ≡ answered n a (now (frame .entry)) (now (flash .entry)) (now (eeprom .entry)) ⌝ }
+    ensures { λ r. ⌜ r ≡ answerTo n a (now (frame .entry)) (now (flash .entry)) (now (eeprom .entry)) ⌝ }
 {
     let t = type_of(frame);
     match a {

@@ -56,7 +56,7 @@ fn asked_by(found: Found, n: Node, frame: &[u8]) -> Action
         Found::Handled(k) => {
             let asks = k.request;
             let mode = n.mode;
-            request::asked(asks, mode, frame)
+            ask::asked(asks, mode, frame)
         }
         Found::Unhandled => Action::Refuse(6),
     }

@@ -12,21 +12,14 @@ use denote.Triple.Clauses.{AtExit}
 use borrow.Fn.Kinds.{endedOf}
 use Rattle.frames.specs.declared.Identified.{Identified}
 use Rattle.frames.specs.Frame.{dataOf, hapcanOf, identifierOf, legalIdentifier, upperFlags}
-use Rattle.frames.specs.Wrapping.{innerOf, wrappedOf, rightlyWrapped}
-use Rattle.frames.specs.Numbers.{toHapcanNumber, toCanNumber, wrapNumber, unwrapNumber, identifiedOf}
-use Rattle.frames.proofs.Done.{to-hapcan-done, done-to-hapcan, to-can-done, done-to-can, wrap-done, done-wrap, unwrap-done, done-unwrap}
+use Rattle.frames.specs.Numbers.{toHapcanNumber, toCanNumber, identifiedOf}
+use Rattle.frames.proofs.Done.{to-hapcan-done, done-to-hapcan, to-can-done, done-to-can}
 use Rattle.frames.proofs.to_hapcan as to-hapcan
 use Rattle.frames.proofs.to_hapcan.Kinds as to-hapcan-kinds
 use Rattle.frames.proofs.to_hapcan.Reads as to-hapcan-reads
 use Rattle.frames.proofs.to_can as to-can
 use Rattle.frames.proofs.to_can.Kinds as to-can-kinds
 use Rattle.frames.proofs.to_can.Reads as to-can-reads
-use Rattle.frames.proofs.wrap as wrap
-use Rattle.frames.proofs.wrap.Kinds as wrap-kinds
-use Rattle.frames.proofs.wrap.Reads as wrap-reads
-use Rattle.frames.proofs.unwrap as unwrap
-use Rattle.frames.proofs.unwrap.Kinds as unwrap-kinds
-use Rattle.frames.proofs.unwrap.Reads as unwrap-reads
 
 -- `to_hapcan(i, d, held)` may give n and leave f
 pub data ToHapcan : ℕ → List ℕ → List ℕ → ℕ → List ℕ → Type 1 where
@@ -40,17 +33,6 @@ pub data ToCan : List ℕ → List ℕ → Identified → List ℕ → Type 1 wh
       (s : AtExit (endedOf 2 to-can-kinds.ps to-can-kinds.r) κs) → to-can-reads.Post κs a r s
       → ToCan ((a .0) .now) ((a .1 .0) .now) r ((s .1 .0) .now)
 
--- `wrap(f, held)` may give n and leave w
-pub data Wrap : List ℕ → List ℕ → ℕ → List ℕ → Type 1 where
-  call : (κs : Lfts 2) (a : ArgsD wrap.signature κs) (r : ResD wrap.signature κs) (s : AtExit (endedOf 2 wrap-kinds.ps wrap-kinds.r) κs)
-      → wrap-reads.Post κs a r s → Wrap ((a .0) .now) ((a .1 .0) .now) r ((s .1 .0) .now)
-
--- `unwrap(w, held)` may give n and leave f
-pub data Unwrap : List ℕ → List ℕ → ℕ → List ℕ → Type 1 where
-  call : (κs : Lfts 2) (a : ArgsD unwrap.signature κs) (r : ResD unwrap.signature κs)
-      (s : AtExit (endedOf 2 unwrap-kinds.ps unwrap-kinds.r) κs) → unwrap-reads.Post κs a r s
-      → Unwrap ((a .0) .now) ((a .1 .0) .now) r ((s .1 .0) .now)
-
 -- what each contract says of such a call, as far as 0 goes
 to-hapcan-said : {i n : ℕ} {d held f : List ℕ} → ToHapcan i d held n f → (n ≡ toHapcanNumber i d (length held)) × (n ≡ 0 → f ≡ hapcanOf i d)
 to-hapcan-said (call κs a r s p) = (p .0, λ z. rw z at (p .1))
@@ -58,12 +40,6 @@ to-hapcan-said (call κs a r s p) = (p .0, λ z. rw z at (p .1))
 to-can-said : {f held d : List ℕ} {r : Identified} → ToCan f held r d
     → (r ≡ identifiedOf (toCanNumber f (length held)) f) × (r .number ≡ 0 → d ≡ dataOf f)
 to-can-said (call κs a r s p) = (p .0, λ z. rw z at (p .1))
-
-wrap-said : {n : ℕ} {f held w : List ℕ} → Wrap f held n w → (n ≡ wrapNumber f (length held)) × (n ≡ 0 → w ≡ wrappedOf f)
-wrap-said (call κs a r s p) = (p .0, λ z. rw z at (p .1))
-
-unwrap-said : {n : ℕ} {w held f : List ℕ} → Unwrap w held n f → (n ≡ unwrapNumber w (length held)) × (n ≡ 0 → f ≡ innerOf w)
-unwrap-said (call κs a r s p) = (p .0, λ z. rw z at (p .1))
 
 -- what a call that gave 0 was handed, and what it left
 pub to-hapcan-gave : {i : ℕ} {d held f : List ℕ} → ToHapcan i d held 0 f
@@ -78,13 +54,6 @@ to-can-gave {i} {f} {held} c =
     let h = to-can-done f (length held) (sym e) in
     (h .0, h .1, h .2, rw (← e) at (ap (λ (r : Identified). r .identifier) (to-can-said c .0)), to-can-said c .1 refl)
 
-pub wrap-gave : {f held w : List ℕ} → Wrap f held 0 w → (length held ≡ 15) × (length f ≡ 12) × (w ≡ wrappedOf f)
-wrap-gave {f} {held} c = let h = wrap-done f (length held) (sym (wrap-said c .0)) in (h .0, h .1, wrap-said c .1 refl)
-
-pub unwrap-gave : {w held f : List ℕ} → Unwrap w held 0 f
-    → (length held ≡ 12) × (length w ≡ 15) × (rightlyWrapped w ≡ true) × (f ≡ innerOf w)
-unwrap-gave {w} {held} c = let h = unwrap-done w (length held) (sym (unwrap-said c .0)) in (h .0, h .1, h .2, unwrap-said c .1 refl)
-
 -- where a call gives 0, and what it then leaves
 pub to-hapcan-gives : {i n : ℕ} {d held f : List ℕ} → ToHapcan i d held n f → length held ≡ 12 → legalIdentifier i ≡ true → length d ≡ 8
     → (n ≡ 0) × (f ≡ hapcanOf i d)
@@ -96,10 +65,3 @@ pub to-can-gives : {f held d : List ℕ} {r : Identified} → ToCan f held r d �
 to-can-gives {f} {held} c h l u =
     let z = rw (done-to-can f (length held) h l u) at (to-can-said c .0) in
     (z, to-can-said c .1 (ap (λ (q : Identified). q .number) z))
-
-pub wrap-gives : {n : ℕ} {f held w : List ℕ} → Wrap f held n w → length held ≡ 15 → length f ≡ 12 → (n ≡ 0) × (w ≡ wrappedOf f)
-wrap-gives {n} {f} {held} c h l = let z = wrap-said c .0 ∙ done-wrap f (length held) h l in (z, wrap-said c .1 z)
-
-pub unwrap-gives : {n : ℕ} {w held f : List ℕ} → Unwrap w held n f → length held ≡ 12 → length w ≡ 15 → rightlyWrapped w ≡ true
-    → (n ≡ 0) × (f ≡ innerOf w)
-unwrap-gives {n} {w} {held} c h l t = let z = unwrap-said c .0 ∙ done-unwrap w (length held) h l t in (z, unwrap-said c .1 z)

@@ -1,5 +1,5 @@
--- One call after another, each whatever its function's real contract allows (`Calls`): both conversions and the wrapping lose nothing, each
--- way round, and no two inputs share an outcome. The same of the definitions is in `Fields` and `Wrapped`.
+-- One call after another, each whatever its function's real contract allows (`Calls`): both conversions lose nothing, each way round, and no
+-- two inputs share an outcome. The same of the definitions is in `Fields`.
 -- Assumes nothing.
 use mathlib.Core.Path.{_≡_, _∙_, sym, ap}
 use mathlib.Core.List.{List}
@@ -9,10 +9,8 @@ use lib.ListN.{length, length-drop}
 use Rattle.base.proofs.Bytes.{Bytes}
 use Rattle.frames.specs.declared.Identified.{Identified}
 use Rattle.frames.specs.Frame.{dataOf, identifierOf, legalIdentifier, upperFlags}
-use Rattle.frames.specs.Wrapping.{innerOf, wrappedOf, rightlyWrapped}
 use Rattle.frames.proofs.Fields.{hapcan-length, hapcan-data, hapcan-no-upper-flags, hapcan-identifier, identifier-legal, identifier-hapcan, identifier-injective, hapcan-injective}
-use Rattle.frames.proofs.Wrapped.{wrapped-length, wrapped-inner, wrapped-right, right-inner-length, right-wrapped, wrapped-injective, inner-injective}
-use Rattle.frames.proofs.Calls.{ToHapcan, ToCan, Wrap, Unwrap, to-hapcan-gave, to-can-gave, wrap-gave, unwrap-gave, to-hapcan-gives, to-can-gives, wrap-gives, unwrap-gives}
+use Rattle.frames.proofs.Calls.{ToHapcan, ToCan, to-hapcan-gave, to-can-gave, to-hapcan-gives, to-can-gives}
 
 -- CAN to HAPCAN to CAN: number 0, the same identifier and the same data
 pub can-hapcan-can : {i : ℕ} {d held f room d′ : List ℕ} {r : Identified} → ToHapcan i d held 0 f → ToCan f room r d′ → length room ≡ 8
@@ -33,21 +31,6 @@ hapcan-can-hapcan {i} {n} {f} {room} {d} b c t h =
     let k = to-hapcan-gives t h (ap legalIdentifier (g .3) ∙ identifier-legal f b) l in
     (k .0, k .1 ∙ rw (g .3, g .4) (identifier-hapcan f (g .1) b (g .2)))
 
--- a frame that is wrapped and unwrapped: number 0 and the same frame
-pub wrap-unwrap : {n : ℕ} {f held w room f′ : List ℕ} → Wrap f held 0 w → Unwrap w room n f′ → length room ≡ 12 → (n ≡ 0) × (f′ ≡ f)
-wrap-unwrap {n} {f} c t h =
-    let g = wrap-gave c in
-    let q = g .2 in
-    let k = unwrap-gives t h (ap length q ∙ wrapped-length f (g .1)) (ap rightlyWrapped q ∙ wrapped-right f (g .1)) in
-    (k .0, k .1 ∙ ap innerOf q ∙ wrapped-inner f (g .1))
-
--- bytes that are unwrapped and wrapped: number 0 and the same bytes
-pub unwrap-wrap : {n : ℕ} {w held f room w′ : List ℕ} → Unwrap w held 0 f → Wrap f room n w′ → length room ≡ 15 → (n ≡ 0) × (w′ ≡ w)
-unwrap-wrap {n} {w} c t h =
-    let g = unwrap-gave c in
-    let k = wrap-gives t h (ap length (g .3) ∙ right-inner-length w (g .2)) in
-    (k .0, k .1 ∙ ap wrappedOf (g .3) ∙ right-wrapped w (g .2))
-
 -- two identifiers with their data never share a frame
 pub to-hapcan-injective : {i j : ℕ} {d e held held′ f : List ℕ} → ToHapcan i d held 0 f → ToHapcan j e held′ 0 f → (i ≡ j) × (d ≡ e)
 to-hapcan-injective {i} {j} {d} {e} c t = hapcan-injective i j d e (sym (to-hapcan-gave c .3) ∙ to-hapcan-gave t .3)
@@ -59,12 +42,3 @@ to-can-injective {i} {f} {g} b b′ c t =
     let p = to-can-gave c in
     let q = to-can-gave t in
     identifier-injective f g (p .1) (q .1) b b′ (p .2) (q .2) (sym (p .3) ∙ q .3) (sym (p .4) ∙ q .4)
-
--- two frames never share a wrapping
-pub wrap-injective : {f g held held′ w : List ℕ} → Wrap f held 0 w → Wrap g held′ 0 w → f ≡ g
-wrap-injective {f} {g} c t = wrapped-injective f g (sym (wrap-gave c .2) ∙ wrap-gave t .2)
-
--- no two runs of bytes are unwrapped to one frame
-pub unwrap-injective : {v w held held′ f : List ℕ} → Unwrap v held 0 f → Unwrap w held′ 0 f → v ≡ w
-unwrap-injective {v} {w} c t =
-    inner-injective v w (unwrap-gave c .2) (unwrap-gave t .2) (sym (unwrap-gave c .3) ∙ unwrap-gave t .3)

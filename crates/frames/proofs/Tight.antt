@@ -12,12 +12,6 @@ use Rattle.frames.proofs.to_hapcan.Reads as to-hapcan-reads
 use Rattle.frames.proofs.to_can as to-can
 use Rattle.frames.proofs.to_can.Kinds as to-can-kinds
 use Rattle.frames.proofs.to_can.Reads as to-can-reads
-use Rattle.frames.proofs.wrap as wrap
-use Rattle.frames.proofs.wrap.Kinds as wrap-kinds
-use Rattle.frames.proofs.wrap.Reads as wrap-reads
-use Rattle.frames.proofs.unwrap as unwrap
-use Rattle.frames.proofs.unwrap.Kinds as unwrap-kinds
-use Rattle.frames.proofs.unwrap.Reads as unwrap-reads
 
 pub to-hapcan-tight : (κs : Lfts 2) (a : ArgsD to-hapcan.signature κs) (r r′ : ResD to-hapcan.signature κs)
     (s s′ : AtExit (endedOf 2 to-hapcan-kinds.ps to-hapcan-kinds.r) κs)
@@ -28,13 +22,3 @@ pub to-can-tight : (κs : Lfts 2) (a : ArgsD to-can.signature κs) (r r′ : Res
     (s s′ : AtExit (endedOf 2 to-can-kinds.ps to-can-kinds.r) κs)
     → to-can-reads.Post κs a r s → to-can-reads.Post κs a r′ s′ → (r ≡ r′) × ((s .1 .0) .now ≡ (s′ .1 .0) .now)
 to-can-tight κs a r r′ s s′ p q = let e = p .0 ∙ sym (q .0) in (e, p .1 ∙ rw e (sym (q .1)))
-
-pub wrap-tight : (κs : Lfts 2) (a : ArgsD wrap.signature κs) (r r′ : ResD wrap.signature κs)
-    (s s′ : AtExit (endedOf 2 wrap-kinds.ps wrap-kinds.r) κs)
-    → wrap-reads.Post κs a r s → wrap-reads.Post κs a r′ s′ → (r ≡ r′) × ((s .1 .0) .now ≡ (s′ .1 .0) .now)
-wrap-tight κs a r r′ s s′ p q = let e = p .0 ∙ sym (q .0) in (e, p .1 ∙ rw e (sym (q .1)))
-
-pub unwrap-tight : (κs : Lfts 2) (a : ArgsD unwrap.signature κs) (r r′ : ResD unwrap.signature κs)
-    (s s′ : AtExit (endedOf 2 unwrap-kinds.ps unwrap-kinds.r) κs)
-    → unwrap-reads.Post κs a r s → unwrap-reads.Post κs a r′ s′ → (r ≡ r′) × ((s .1 .0) .now ≡ (s′ .1 .0) .now)
-unwrap-tight κs a r r′ s s′ p q = let e = p .0 ∙ sym (q .0) in (e, p .1 ∙ rw e (sym (q .1)))

@@ -19,7 +19,7 @@ use Rattle.rules.specs.Step.{Step, canRows}
 use Rattle.rules.specs.Uart.{UartStep, silentAnswer, uartRows}
 use Rattle.rules.specs.Refused.{refusedOnCan, refusedOnUart}
 use Rattle.rules.proofs.AnswerOne.{can-number, uart-number, can-refused, uart-refused}
-use Rattle.rules.proofs.Spoiling.{ButBootfl, can-below-rim, uart-below-rim, can-lengths, uart-lengths, can-normal, uart-normal}
+use Rattle.rules.proofs.Spoiling.{ButBootfl, can-below-rim, uart-below-rim, can-lengths, uart-lengths, can-normal-spares, uart-normal-spares}
 use Rattle.node.proofs.restart.{signature as restart-signature}
 use Rattle.node.proofs.restart.Kinds as restart-kinds
 use Rattle.node.proofs.restart.Reads as restart-reads
@@ -67,7 +67,7 @@ module _ (κs : Lfts 3) (a : ArgsD can-frame-signature κs) (r : ResD can-frame-
       → ButBootfl ((a .1 .1 .0) .now) ((a .1 .1 .1 .0) .now) ((s .1 .1 .0) .now) ((s .1 .1 .1 .0) .now)
   can-frame-normal started m =
       subst (λ (x : Step). ButBootfl ((a .1 .1 .0) .now) ((a .1 .1 .1 .0) .now) (x .flash) (x .eeprom)) (sym p)
-      (can-normal (a .0) started ((a .1 .0) .now) ((a .1 .1 .0) .now) ((a .1 .1 .1 .0) .now) m)
+      (can-normal-spares (a .0) started ((a .1 .0) .now) ((a .1 .1 .0) .now) ((a .1 .1 .1 .0) .now) m)
 
 -- ---- a call of uart_byte
 
@@ -102,7 +102,7 @@ module _ (κs : Lfts 2) (a : ArgsD uart-byte-signature κs) (r : ResD uart-byte-
       → ButBootfl ((a .1 .1 .0) .now) ((a .1 .1 .1 .0) .now) ((s .1 .1 .0) .now) ((s .1 .1 .1 .0) .now)
   uart-byte-normal started m =
       subst (λ (x : UartStep). ButBootfl ((a .1 .1 .0) .now) ((a .1 .1 .1 .0) .now) (x .flash) (x .eeprom)) (sym p)
-      (uart-normal (a .0) started (a .1 .0) ((a .1 .1 .0) .now) ((a .1 .1 .1 .0) .now) m)
+      (uart-normal-spares (a .0) started (a .1 .0) ((a .1 .1 .0) .now) ((a .1 .1 .1 .0) .now) m)
 
 -- ---- a run: a list of calls, each of any kind and with any arguments, each witnessed by that call's contract. The memories are carried
 -- over; between calls the caller may hand in any record and choose anew. (A restart is lent both memories to be read alone.)

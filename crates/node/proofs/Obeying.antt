@@ -12,7 +12,7 @@ use Rattle.rules.specs.declared.Answer.{Answer}
 use Rattle.rules.specs.Requests.{dataIn}
 use Rattle.rules.specs.Outcomes.{decided}
 use Rattle.rules.specs.Replies.{quiet}
-use Rattle.rules.specs.Step.{after, flashDone, eepromDone, answered, acted, obeyed}
+use Rattle.rules.specs.Step.{after, flashDone, eepromDone, answerTo, acted, obeyed}
 
 module _ (n : Node) (fits : Bool) (f flash eeprom : List ℕ) where
   decided-obeyed : acted n (cond fits (decided n f) (Refuse 1)) f flash eeprom
@@ -26,7 +26,7 @@ module _ (n : Node) (fits : Bool) (f flash eeprom : List ℕ) where
       go false = refl
 
   pub done : (a : Action) (d flash′ eeprom′ : List ℕ) (r : Answer) → a ≡ cond fits (decided n f) (Refuse 1) → d ≡ dataIn f
-      → flash′ ≡ flashDone a d flash → eeprom′ ≡ eepromDone a d eeprom → r ≡ answered n a f flash′ eeprom′
+      → flash′ ≡ flashDone a d flash → eeprom′ ≡ eepromDone a d eeprom → r ≡ answerTo n a f flash′ eeprom′
       → after r flash′ eeprom′ ≡ cond fits (obeyed n f flash eeprom) (after (quiet 1 n) flash eeprom)
   unfolding acted
   done a d flash′ eeprom′ r s e p q o =

@@ -6,23 +6,18 @@ mod port;
 ghost use mathlib.Core.Path.{_≡_};
 ghost use Rattle.address.specs.Places.{full};
 ghost use Rattle.rules.specs.Record.{freshNode};
-ghost use Rattle.rules.specs.Restart.{nodeAfter, modeAfter, restartStep};
+ghost use Rattle.rules.specs.Restart.{restartStep};
 ghost use Rattle.rules.specs.Step.{after, canStep};
 ghost use Rattle.rules.specs.Uart.{uartAfter, uartStep};
-use address::BOOTFL;
 use address::EEPROM_CELLS;
-use address::EEPROM_FIRST;
 use address::FLASH_CELLS;
-use address::GROUP;
 use address::Group;
-use address::MODULE;
 use address::Module;
 use rules::Answer;
 use rules::Mode;
 use rules::Node;
 use rules::Pin;
 use rules::Restarted;
-use rules::Staged;
 use rules::UartAnswer;
 
 // A fresh node with these six fixed bytes: own numbers 0, nothing held, pin CAN only, waiting for restart.
@@ -37,43 +32,6 @@ pub fn fresh(fixed: [u8; 6]) -> Node
         held: [0; 15],
         count: 0,
         mode: Mode::Waiting,
-    }
-}
-
-// The mode that a restart reaches.
-fn mode_after(passed: bool, flash: &[u8], eeprom: &[u8]) -> Mode
-    ensures { λ r. ⌜ r ≡ modeAfter passed (now (flash .entry)) (now (eeprom .entry)) ⌝ }
-{
-    if passed {
-        let at = (BOOTFL.0 - EEPROM_FIRST) as usize;
-        let flag = base::byte_at(eeprom, at);
-        if flag == 0xFF {
-            return Mode::Programming(Staged::Nothing);
-        }
-        let started = sum::firmware_starts(flash);
-        return Mode::Normal(started);
-    }
-    Mode::Error
-}
-
-// The record after a restart.
-fn node_after(n: Node, pin: Pin, passed: bool, flash: &[u8], eeprom: &[u8]) -> Node
-    ensures { λ r. ⌜ r ≡ nodeAfter n pin passed (now (flash .entry)) (now (eeprom .entry)) ⌝ }
-{
-    let fixed = n.fixed;
-    let module_at = (MODULE.0 - EEPROM_FIRST) as usize;
-    let group_at = (GROUP.0 - EEPROM_FIRST) as usize;
-    let own = Module(base::byte_at(eeprom, module_at));
-    let group = Group(base::byte_at(eeprom, group_at));
-    let mode = mode_after(passed, flash, eeprom);
-    Node {
-        pin,
-        fixed,
-        own,
-        group,
-        held: [0; 15],
-        count: 0,
-        mode,
     }
 }
 
@@ -92,7 +50,7 @@ pub fn restart(node: Node, pin: Pin, passed: bool, flash: &[u8], eeprom: &[u8]) 
     ensures { λ r. ⌜ r ≡ restartStep node pin passed (now (flash .entry)) (now (eeprom .entry)) ⌝ }
 {
     if full(flash, eeprom) {
-        let n = node_after(node, pin, passed, flash, eeprom);
+        let n = restart::node_after(node, pin, passed, flash, eeprom);
         return Restarted { number: 0, node: n };
     }
     let n = tidy::tidy(node);

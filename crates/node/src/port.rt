@@ -111,7 +111,7 @@ fn complete(n: Node, byte: u8, flash: &mut [u8], eeprom: &mut [u8]) -> UartAnswe
     let mut whole = n.held;
     whole[14] = byte;
     let mut frame = [0u8; 12];
-    let number = frames::unwrap(&whole, &mut frame);
+    let number = wrap::unwrap(&whole, &mut frame);
     if number == 0 {
         let a = acting::obey(emptied(n), true, &frame, flash, eeprom);
         return uart::on_uart(a);

@@ -63,7 +63,7 @@ fn on_uart(h: Handed, frame: &[u8], flash: &mut [u8], eeprom: &mut [u8]) -> Hand
 }
 
 fn wrap(frame: &[u8], wrapped: &mut [u8; 15]) {
-    frames::wrap(frame, wrapped);
+    wrap::wrap(frame, wrapped);
 }
 
 // A frame on this port: 0 CAN, else UART.

@@ -11,10 +11,9 @@ use lib.ListN.{length, take, drop, replicate}
 use lib.Seq.{take-take}
 use borrow.Author.Tests.{eq-eqb}
 use Rattle.base.specs.Parts.{part, patch, listed}
-use Rattle.base.proofs.Choice.{true-both}
 use Rattle.base.proofs.Patched.{part-length, part-patch}
 use Rattle.base.proofs.Listed.{listed-all}
-use Rattle.address.specs.Places.{full, eepromCell}
+use Rattle.address.specs.Places.{eepromCell}
 use Rattle.address.specs.Rule.{ruled, legalFlash, legalEeprom}
 use Rattle.address.specs.declared.Address.{Address}
 use Rattle.address.specs.declared.FlashAddress.{FlashAddress}
@@ -37,6 +36,7 @@ use Rattle.rules.specs.Requests.{commandAt}
 use Rattle.rules.specs.Outcomes.{decided}
 use Rattle.rules.specs.Replies.{replyOf, quiet, one}
 use Rattle.rules.specs.Step.{Step, after, bootflSet, acted, obeyed, canStep}
+use Rattle.rules.proofs.Ruling.{sizes-full}
 use Rattle.rules.proofs.TidiedOnce.{programming, tidied-once, tidied-legal, programming-is}
 
 eqb-same : (x : ℕ) → eqb x x ≡ true
@@ -117,11 +117,6 @@ eraseFlash a = Erase (record { 0 = a })
 abbrev pub answered : Node → Staged → List ℕ → List ℕ → List ℕ → Step
 answered n s reply flash eeprom = after (one (programming n s) reply) flash eeprom
 
--- memories of full size
-pub sized : (flash eeprom : List ℕ) → length flash ≡ 65536 → length eeprom ≡ 1024 → full flash eeprom ≡ true
-sized flash eeprom l k =
-    true-both (eqb (length flash) 65536) (eqb (length eeprom) 1024) (eq-eqb (length flash) 65536 l) (eq-eqb (length eeprom) 1024 k)
-
 -- eight cells are listed as they are
 shows-eight : (n : Node) (s : Staged) (cells new : List ℕ) → cells ≡ new → length new ≡ 8
     → replyOf (programming n s) 0x040 cells ≡ showOf (n .own .0) (n .group .0) new
@@ -135,14 +130,14 @@ module _ (n : Node) (flash eeprom : List ℕ) (l : length flash ≡ 65536) (k : 
   obeys : (s : Staged) → legalStaged s ≡ true → (frame : List ℕ) (a : Action) → decided (programming n s) frame ≡ a
       → canStep (programming n s) frame flash eeprom ≡ acted (programming n s) a frame flash eeprom
   unfolding canStep
-  obeys s h frame a e = simp (sized flash eeprom l k, tidied-once n s h, e)
+  obeys s h frame a e = simp (sizes-full flash eeprom l k, tidied-once n s h, e)
 
   -- the first call tidies
   pub tidied-first : (s : Staged) → tidied n .mode ≡ Programming s → (frame : List ℕ)
       → canStep n frame flash eeprom ≡ canStep (programming n s) frame flash eeprom
   unfolding canStep
   tidied-first s e frame =
-      simp (sized flash eeprom l k, tidied-once n s (tidied-legal n s e))
+      simp (sizes-full flash eeprom l k, tidied-once n s (tidied-legal n s e))
       (ap (λ (t : Node). obeyed t frame flash eeprom) (programming-is n s e))
 
   -- 0x030 with a legal command: staged, D0 to D7 echoed
@@ -170,7 +165,7 @@ module _ (n : Node) (flash eeprom : List ℕ) (l : length flash ≡ 65536) (k : 
         obeys (eraseFlash a) h (dataTo (n .own .0) (n .group .0) d) (Clear (record { 0 = a })) (decided-erase n (record { 0 = a }) d eight)
         ∙ ap (λ (reply : List ℕ). answered n (eraseFlash a) reply (flashErased flash a) eeprom)
         (shows-eight n (eraseFlash a) (shown (flashErased flash a) eeprom a) (replicate 8 0xFF)
-        (shown-flash (flashErased flash a) eeprom a (sized (flashErased flash a) eeprom (erased-length flash a ∙ l) k) (flash-readable a 0x03 h)
+        (shown-flash (flashErased flash a) eeprom a (sizes-full (flashErased flash a) eeprom (erased-length flash a ∙ l) k) (flash-readable a 0x03 h)
         ∙ erased-row flash a l h)
         refl)
 
@@ -186,7 +181,7 @@ module _ (n : Node) (flash eeprom : List ℕ) (l : length flash ≡ 65536) (k : 
         ∙ ap₂ (λ (new reply : List ℕ). answered n (writeFlash a) reply (flashWritten flash a new) eeprom) (listed-all d 8 eight)
         (shows-eight n (writeFlash a) (shown (flashWritten flash a (listed d 0 8)) eeprom a) (part (flashWritten flash a d) a 8)
         (ap (λ (new : List ℕ). shown (flashWritten flash a new) eeprom a) (listed-all d 8 eight)
-        ∙ shown-flash (flashWritten flash a d) eeprom a (sized (flashWritten flash a d) eeprom long k) (flash-readable a 0x02 h))
+        ∙ shown-flash (flashWritten flash a d) eeprom a (sizes-full (flashWritten flash a d) eeprom long k) (flash-readable a 0x02 h))
         (part-length (flashWritten flash a d) a 8 (omega arith)))
 
     -- with an EEPROM write staged: the row is replaced, and the reply shows the new bytes
@@ -199,6 +194,6 @@ module _ (n : Node) (flash eeprom : List ℕ) (l : length flash ≡ 65536) (k : 
         ∙ ap₂ (λ (new reply : List ℕ). answered n (writeEeprom a) reply flash (eepromWritten eeprom a new)) (listed-all d 8 eight)
         (shows-eight n (writeEeprom a) (shown flash (eepromWritten eeprom a (listed d 0 8)) a) d
         (ap (λ (new : List ℕ). shown flash (eepromWritten eeprom a new) a) (listed-all d 8 eight)
-        ∙ shown-eeprom flash (eepromWritten eeprom a d) a (sized flash (eepromWritten eeprom a d) l (eeprom-written-length eeprom a d ∙ k)) (eeprom-readable a 0x02 h)
+        ∙ shown-eeprom flash (eepromWritten eeprom a d) a (sizes-full flash (eepromWritten eeprom a d) l (eeprom-written-length eeprom a d ∙ k)) (eeprom-readable a 0x02 h)
         ∙ eeprom-row eeprom a d k h eight)
         eight)

@@ -203,16 +203,16 @@ normal-mild n started f e = judged-mild (firstThat (frameRows n f)) (askedBy n f
     go (Handled k) = subst (λ (m : Mode). Mild (asked (k .request) m f)) (sym e) (normal-asked (k .request) started f)
 
 -- "in normal mode no frame or byte changes FLASH at all, nor EEPROM but for BOOTFL"
-pub can-normal : (n : Node) (started : Bool) (f flash eeprom : List ℕ) → n .mode ≡ Normal started
+pub can-normal-spares : (n : Node) (started : Bool) (f flash eeprom : List ℕ) → n .mode ≡ Normal started
     → ButBootfl flash eeprom (canStep n f flash eeprom .flash) (canStep n f flash eeprom .eeprom)
 unfolding tidied
-can-normal n started f flash eeprom e =
+can-normal-spares n started f flash eeprom e =
     can-memories (ButBootfl flash eeprom) n f flash eeprom (refl, λ i h. refl)
     (mild-memories (tidied n) (decided (tidied n) f) f flash eeprom (normal-mild (tidied n) started f (ap tidyMode e)))
 
-pub uart-normal : (n : Node) (started : Bool) (b : ℕ) (flash eeprom : List ℕ) → n .mode ≡ Normal started
+pub uart-normal-spares : (n : Node) (started : Bool) (b : ℕ) (flash eeprom : List ℕ) → n .mode ≡ Normal started
     → ButBootfl flash eeprom (uartStep n b flash eeprom .flash) (uartStep n b flash eeprom .eeprom)
 unfolding tidied
-uart-normal n started b flash eeprom e =
+uart-normal-spares n started b flash eeprom e =
     uart-memories (ButBootfl flash eeprom) n b flash eeprom (refl, λ i h. refl)
     (λ f. mild-memories (holding (tidied n) []) (decided (holding (tidied n) []) f) f flash eeprom (normal-mild (holding (tidied n) []) started f (ap tidyMode e)))

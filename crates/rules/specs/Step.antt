@@ -84,27 +84,27 @@ abbrev pub showing : Node → ℕ → List ℕ → List ℕ → Answer
 showing n a flash eeprom = one n (replyOf n 0x040 (shown flash eeprom a))
 
 -- the number, the replies and the node, over the memories as they are afterwards
-abbrev pub answered : Node → Action → List ℕ → List ℕ → List ℕ → Answer
-answered n (Refuse number) f flash eeprom = quiet number n
-answered n Unstage f flash eeprom = quiet 8 (withMode n (Programming Nothing))
-answered n Enter f flash eeprom = one (withMode n (Programming Nothing)) (replyOf n 0x100 enteredData)
-answered n Wait f flash eeprom = quiet 0 (withMode n Waiting)
-answered n Hardware f flash eeprom = one n (replyOf n (typeOf f) (hardwareData n))
-answered n Firmware f flash eeprom = one n (firmwareReply n (typeOf f) flash)
-answered n Describe f flash eeprom =
+abbrev pub answerTo : Node → Action → List ℕ → List ℕ → List ℕ → Answer
+answerTo n (Refuse number) f flash eeprom = quiet number n
+answerTo n Unstage f flash eeprom = quiet 8 (withMode n (Programming Nothing))
+answerTo n Enter f flash eeprom = one (withMode n (Programming Nothing)) (replyOf n 0x100 enteredData)
+answerTo n Wait f flash eeprom = quiet 0 (withMode n Waiting)
+answerTo n Hardware f flash eeprom = one n (replyOf n (typeOf f) (hardwareData n))
+answerTo n Firmware f flash eeprom = one n (firmwareReply n (typeOf f) flash)
+answerTo n Describe f flash eeprom =
     two n (replyOf n (typeOf f) (descriptionData 0 eeprom)) (replyOf n (typeOf f) (descriptionData 8 eeprom))
-answered n Device f flash eeprom = one n (replyOf n (typeOf f) (deviceData n))
-answered n Leave f flash eeprom = quiet 0 (withMode n Waiting)
-answered n (Stage s) f flash eeprom = one (withMode n (Programming s)) (replyOf n 0x030 (dataIn f))
-answered n (Show a) f flash eeprom = showing n (numberOf a) flash eeprom
-answered n (Put a) f flash eeprom = showing n (numberOf a) flash eeprom
-answered n (Clear a) f flash eeprom = showing n (a .0) flash eeprom
+answerTo n Device f flash eeprom = one n (replyOf n (typeOf f) (deviceData n))
+answerTo n Leave f flash eeprom = quiet 0 (withMode n Waiting)
+answerTo n (Stage s) f flash eeprom = one (withMode n (Programming s)) (replyOf n 0x030 (dataIn f))
+answerTo n (Show a) f flash eeprom = showing n (numberOf a) flash eeprom
+answerTo n (Put a) f flash eeprom = showing n (numberOf a) flash eeprom
+answerTo n (Clear a) f flash eeprom = showing n (a .0) flash eeprom
 
 -- what is done: the memories change, and the answer is given over them
 unfoldable pub acted : Node → Action → List ℕ → List ℕ → List ℕ → Step
 acted n a f flash eeprom =
     after
-    (answered n a f (flashDone a (dataIn f) flash) (eepromDone a (dataIn f) eeprom))
+    (answerTo n a f (flashDone a (dataIn f) flash) (eepromDone a (dataIn f) eeprom))
     (flashDone a (dataIn f) flash)
     (eepromDone a (dataIn f) eeprom)
 

@@ -22,14 +22,14 @@ pub fn to_identifier(name: &[u8], frame: &[u8], data: &mut [u8]) {
 
 // A frame wrapped for UART.
 pub fn wrapping(name: &[u8], frame: &[u8], wrapped: &mut [u8]) {
-    let number = frames::wrap(frame, wrapped);
+    let number = wrap::wrap(frame, wrapped);
     print::bytes(name, frame);
     print::answer(number, b", wrapped", wrapped);
 }
 
 // What came on UART, unwrapped.
 pub fn unwrapping(name: &[u8], wrapped: &[u8], frame: &mut [u8]) {
-    let number = frames::unwrap(wrapped, frame);
+    let number = wrap::unwrap(wrapped, frame);
     print::bytes(name, wrapped);
     print::answer(number, b", frame", frame);
 }

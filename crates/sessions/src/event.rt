@@ -152,14 +152,14 @@ fn to_can(s: Session, rec: &[u8], output: &mut [u8]) -> Session {
 fn wrap(s: Session, rec: &[u8], output: &mut [u8]) -> Session {
     let input = slices::part(rec, 3, handed::length(rec, 1));
     let out = slices::lent(output, handed::length(rec, 2));
-    let number = frames::wrap(input, out);
+    let number = wrap::wrap(input, out);
     answer::write(s, &[0x0C, number], out, &[])
 }
 
 fn unwrap(s: Session, rec: &[u8], output: &mut [u8]) -> Session {
     let input = slices::part(rec, 3, handed::length(rec, 1));
     let out = slices::lent(output, handed::length(rec, 2));
-    let number = frames::unwrap(input, out);
+    let number = wrap::unwrap(input, out);
     answer::write(s, &[0x0D, number], out, &[])
 }
 

@@ -12,7 +12,7 @@ fn wrapped(reply: [u8; 12]) -> [u8; 15]
     ensures { λ r. ⌜ r ≡ wrappedOf reply ⌝ }
 {
     let mut w = [0u8; 15];
-    frames::wrap(&reply, &mut w);
+    wrap::wrap(&reply, &mut w);
     w
 }
 

@@ -1,21 +1,8 @@
--- `answer::answer` meets its contract: each arm knows the action, and its callee makes what `answered` says of it.
+-- `answer::answer` meets its contract: each arm knows the action, and its callee makes what `answerTo` says of it.
 -- Assumes nothing.
 use borrow.Author.Needs.{needs}
 use Rattle.answer.proofs.answer.Statement.{statement}
 use Rattle.answer.proofs.answer.Tie as tie
-use Rattle.answer.proofs.answer.Reads as reads
-use Rattle.answer.proofs.answer.Lts as lts
-use Rattle.answer.proofs.describe.Reads as describe-reads
-use Rattle.answer.proofs.firmware.Reads as firmware-reads
-use Rattle.answer.proofs.making.one.Reads as one-reads
-use Rattle.answer.proofs.making.quiet.Reads as quiet-reads
-use Rattle.answer.proofs.making.with_mode.Reads as with-mode-reads
-use Rattle.answer.proofs.number_of.Reads as number-of-reads
-use Rattle.answer.proofs.reading.device.Reads as device-reads
-use Rattle.answer.proofs.reading.eight.Reads as eight-reads
-use Rattle.answer.proofs.reading.hardware.Reads as hardware-reads
-use Rattle.answer.proofs.show_cells.Reads as show-cells-reads
-use Rattle.answer.proofs.type_of.Reads as type-of-reads
 
 type-of-requires : tie.Need-type-of-requires
 type-of-requires c κs = search needs

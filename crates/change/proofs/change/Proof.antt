@@ -4,11 +4,6 @@
 use borrow.Author.Needs.{needs}
 use Rattle.change.proofs.change.Statement.{statement}
 use Rattle.change.proofs.change.Tie as tie
-use Rattle.change.proofs.change.Reads as reads
-use Rattle.change.proofs.change.Lts as lts
-use Rattle.cells.proofs.erase_flash.Reads as erase-flash-reads
-use Rattle.change.proofs.put.Reads as put-reads
-use Rattle.change.proofs.set_bootfl.Reads as set-bootfl-reads
 
 enum-told : tie.Need-enum-told
 enum-told c = search needs

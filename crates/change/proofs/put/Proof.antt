@@ -3,10 +3,6 @@
 use borrow.Author.Needs.{needs}
 use Rattle.change.proofs.put.Statement.{statement}
 use Rattle.change.proofs.put.Tie as tie
-use Rattle.change.proofs.put.Reads as reads
-use Rattle.change.proofs.put.Lts as lts
-use Rattle.cells.proofs.write_eeprom.Reads as write-eeprom-reads
-use Rattle.cells.proofs.write_flash.Reads as write-flash-reads
 
 enum-known-at : tie.Need-enum-known-at
 enum-known-at c = search needs

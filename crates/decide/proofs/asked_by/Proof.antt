@@ -3,9 +3,6 @@
 use borrow.Author.Needs.{needs}
 use Rattle.decide.proofs.asked_by.Statement.{statement}
 use Rattle.decide.proofs.asked_by.Tie as tie
-use Rattle.decide.proofs.asked_by.Reads as reads
-use Rattle.decide.proofs.asked_by.Lts as lts
-use Rattle.decide.proofs.request.asked.Reads as asked-reads
 
 enum-known-found : tie.Need-enum-known-found
 enum-known-found c = search needs

@@ -4,16 +4,6 @@ use Rattle.decide.proofs.Listed.{decided-listed}
 use borrow.Author.Needs.{needs}
 use Rattle.decide.proofs.decide.Statement.{statement}
 use Rattle.decide.proofs.decide.Tie as tie
-use Rattle.decide.proofs.decide.Reads as reads
-use Rattle.decide.proofs.decide.Lts as lts
-use Rattle.decide.proofs.asked_by.Reads as asked-by-reads
-use Rattle.decide.proofs.is_deaf.Reads as is-deaf-reads
-use Rattle.decide.proofs.is_elsewhere.Reads as is-elsewhere-reads
-use Rattle.decide.proofs.is_foreign.Reads as is-foreign-reads
-use Rattle.decide.proofs.request.is_response.Reads as is-response-reads
-use Rattle.decide.proofs.request.misshapen.Reads as misshapen-reads
-use Rattle.decide.proofs.request.type_of.Reads as type-of-reads
-use Rattle.table.proofs.look_up.Reads as look-up-reads
 
 is-deaf-requires : tie.Need-is-deaf-requires
 is-deaf-requires c κs = search needs

@@ -3,9 +3,6 @@
 use borrow.Author.Needs.{needs}
 use Rattle.decide.proofs.is_elsewhere.Statement.{statement}
 use Rattle.decide.proofs.is_elsewhere.Tie as tie
-use Rattle.decide.proofs.is_elsewhere.Reads as reads
-use Rattle.decide.proofs.is_elsewhere.Lts as lts
-use Rattle.decide.proofs.request.handled_here.Reads as handled-here-reads
 
 enum-known-found : tie.Need-enum-known-found
 enum-known-found c = search needs

@@ -3,9 +3,6 @@
 use borrow.Author.Needs.{needs}
 use Rattle.decide.proofs.is_foreign.Statement.{statement}
 use Rattle.decide.proofs.is_foreign.Tie as tie
-use Rattle.decide.proofs.is_foreign.Reads as reads
-use Rattle.decide.proofs.is_foreign.Lts as lts
-use Rattle.decide.proofs.request.is_for.Reads as is-for-reads
 
 enum-known-found : tie.Need-enum-known-found
 enum-known-found c = search needs

@@ -1,6 +1,6 @@
 -- `frames::to_can` meets its contract: behind a number 0 the output is the data, and else it was not lent on.
 -- Assumes nothing.
-use mathlib.Core.Path.{_≡_, _∙_, sym}
+use mathlib.Core.Path.{_≡_, _∙_, refl, sym}
 use Prim.Native.Nat.{ℕ, _-_}
 use mathlib.Core.Bool.{false}
 use mathlib.Core.List.{List}
@@ -8,6 +8,7 @@ use native.Mathlib.Omega.{arith}
 use lib.ListN.{length, take, drop, length-take, length-drop}
 use lib.Seq.{take-all}
 use borrow.Author.Tests.{ne-eqb}
+use Rattle.base.proofs.Stored.{mix-all}
 use Rattle.frames.specs.declared.Identified.{Identified}
 use Rattle.frames.specs.Frame.{identifierOf, upperFlags}
 use Rattle.frames.specs.Numbers.{identifiedOf}
@@ -59,7 +60,7 @@ returns c =
     let h = done t in
     let e : take (length f - 4) (drop 4 f) ≡ drop 4 f = take-all (length f - 4) (drop 4 f) (simp length-drop (omega arith)) in (
       identified _ _ _ f (t .before .to-can-number .ensures) (t .if1 .taken) (c .identifier-of .ensures),
-      rw (t .if1 .taken) (k .copy .ensures ∙ e),
+      rw (t .if1 .taken) (k .copy .ensures .1 ∙ mix-all _ _ _ refl (simp (length-take, length-drop) (omega arith)) ∙ e),
     )
 
 returns-2 : tie.Need-returns-2

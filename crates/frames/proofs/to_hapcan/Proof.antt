@@ -1,12 +1,13 @@
 -- `frames::to_hapcan` meets its contract: behind a number 0 the output is the head and the data, and else it was not lent on.
 -- Assumes nothing.
-use mathlib.Core.Path.{_≡_, _∙_, sym}
+use mathlib.Core.Path.{_≡_, _∙_, refl, sym}
 use mathlib.Core.List.{List, _++_, append-nil}
 use Prim.Native.Nat.{ℕ, _-_}
 use native.Mathlib.Omega.{arith}
 use lib.ListN.{length, take, drop, length-take, length-drop, drop-of-length-le}
 use borrow.Author.Tests.{leb-true, ne-eqb}
 use mathlib.Core.Bool.{true}
+use Rattle.base.proofs.Stored.{mix-all}
 use Rattle.frames.specs.Frame.{headOf, hapcanOf, legalIdentifier}
 use Rattle.frames.proofs.Done.{to-hapcan-done}
 use borrow.Author.Needs.{needs}
@@ -52,7 +53,9 @@ returns c =
     let k = c .before .before .before .before .before .before in
     let t = k .before .before in
     let a = t .before .before .before .before .args in
-    let e = laid (a .identifier) (a .frame .now) (a .«data» .now) _ _ (k .put-head .ensures) (c .before .before .copy .ensures) in
+    let h = done t in
+    let q = c .before .before .copy .ensures .1 ∙ mix-all (a .«data» .now) _ _ refl (simp (length-take, length-drop) (omega arith)) in
+    let e = laid (a .identifier) (a .frame .now) (a .«data» .now) _ _ (k .put-head .ensures) q in
     (t .before .to-hapcan-number .ensures, rw (t .if1 .taken) e)
 
 returns-2 : tie.Need-returns-2

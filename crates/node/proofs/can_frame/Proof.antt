@@ -4,11 +4,6 @@ use Rattle.rules.specs.Step.{canStep}
 use borrow.Author.Needs.{needs}
 use Rattle.node.proofs.can_frame.Statement.{statement}
 use Rattle.node.proofs.can_frame.Tie as tie
-use Rattle.node.proofs.can_frame.Reads as reads
-use Rattle.node.proofs.can_frame.Lts as lts
-use Rattle.node.proofs.acting.obey.Reads as obey-reads
-use Rattle.node.proofs.full.Reads as full-reads
-use Rattle.tidy.proofs.tidy.Reads as tidy-reads
 
 tidy-requires : tie.Need-tidy-requires
 tidy-requires c κs = search needs

@@ -3,8 +3,6 @@
 use borrow.Author.Tests.{eq-eqb, ne-eqb}
 use Rattle.node.proofs.full.Statement.{statement}
 use Rattle.node.proofs.full.Tie as tie
-use Rattle.node.proofs.full.Reads as reads
-use Rattle.node.proofs.full.Lts as lts
 
 returns : tie.Need-returns
 returns c = simp (eq-eqb _ 65536 (c .if1 .taken))

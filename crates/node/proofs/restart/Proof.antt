@@ -4,11 +4,6 @@ use Rattle.rules.specs.Restart.{restartStep}
 use borrow.Author.Needs.{needs}
 use Rattle.node.proofs.restart.Statement.{statement}
 use Rattle.node.proofs.restart.Tie as tie
-use Rattle.node.proofs.restart.Reads as reads
-use Rattle.node.proofs.restart.Lts as lts
-use Rattle.node.proofs.full.Reads as full-reads
-use Rattle.node.proofs.node_after.Reads as node-after-reads
-use Rattle.tidy.proofs.tidy.Reads as tidy-reads
 
 full-requires : tie.Need-full-requires
 full-requires c κs = search needs

@@ -5,11 +5,6 @@ use Rattle.node.proofs.Listening.{listened-right, tidied-few}
 use borrow.Author.Needs.{needs}
 use Rattle.node.proofs.uart_byte.Statement.{statement}
 use Rattle.node.proofs.uart_byte.Tie as tie
-use Rattle.node.proofs.uart_byte.Reads as reads
-use Rattle.node.proofs.uart_byte.Lts as lts
-use Rattle.node.proofs.full.Reads as full-reads
-use Rattle.node.proofs.port.listen.Reads as listen-reads
-use Rattle.tidy.proofs.tidy.Reads as tidy-reads
 
 tidy-requires : tie.Need-tidy-requires
 tidy-requires c κs = search needs

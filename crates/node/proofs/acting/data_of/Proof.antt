@@ -3,9 +3,6 @@
 use borrow.Author.Needs.{needs}
 use Rattle.node.proofs.acting.data_of.Statement.{statement}
 use Rattle.node.proofs.acting.data_of.Tie as tie
-use Rattle.node.proofs.acting.data_of.Reads as reads
-use Rattle.node.proofs.acting.data_of.Lts as lts
-use Rattle.base.proofs.byte_at.Reads as byte-at-reads
 
 byte-at-requires : tie.Need-byte-at-requires
 byte-at-requires c κs = search needs

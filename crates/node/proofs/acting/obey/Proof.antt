@@ -4,12 +4,6 @@ use Rattle.node.proofs.Obeying.{done}
 use borrow.Author.Needs.{needs}
 use Rattle.node.proofs.acting.obey.Statement.{statement}
 use Rattle.node.proofs.acting.obey.Tie as tie
-use Rattle.node.proofs.acting.obey.Reads as reads
-use Rattle.node.proofs.acting.obey.Lts as lts
-use Rattle.answer.proofs.answer.Reads as answer-reads
-use Rattle.change.proofs.change.Reads as change-reads
-use Rattle.decide.proofs.decide.Reads as decide-reads
-use Rattle.node.proofs.acting.data_of.Reads as data-of-reads
 
 decide-requires : tie.Need-decide-requires
 decide-requires c κs = search needs

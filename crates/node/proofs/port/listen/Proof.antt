@@ -4,13 +4,6 @@ use Rattle.node.specs.Listening.{listened}
 use borrow.Author.Needs.{needs}
 use Rattle.node.proofs.port.listen.Statement.{statement}
 use Rattle.node.proofs.port.listen.Tie as tie
-use Rattle.node.proofs.port.listen.Reads as reads
-use Rattle.node.proofs.port.listen.Lts as lts
-use Rattle.node.proofs.port.complete.Reads as complete-reads
-use Rattle.node.proofs.port.is_closed.Reads as is-closed-reads
-use Rattle.node.proofs.port.is_deaf.Reads as is-deaf-reads
-use Rattle.node.proofs.port.silent.Reads as silent-reads
-use Rattle.node.proofs.port.take.Reads as take-reads
 
 is-closed-requires : tie.Need-is-closed-requires
 is-closed-requires c κs = search needs

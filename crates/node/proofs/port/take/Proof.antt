@@ -4,9 +4,6 @@ use borrow.Author.Tests.{eq-eqb, ne-eqb}
 use borrow.Author.Needs.{needs}
 use Rattle.node.proofs.port.take.Statement.{statement}
 use Rattle.node.proofs.port.take.Tie as tie
-use Rattle.node.proofs.port.take.Reads as reads
-use Rattle.node.proofs.port.take.Lts as lts
-use Rattle.node.proofs.port.hold.Reads as hold-reads
 
 hold-requires : tie.Need-hold-requires
 hold-requires c κs = search needs

@@ -1,0 +1,3 @@
+pub mod Tight
+pub mod Calls
+pub mod RoundTrips
