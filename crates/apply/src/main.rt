@@ -44,7 +44,7 @@ fn apply(recipe: &[u8]) {
     let blank = restarted(&flash, &eeprom);
     let mut frames = [0u8; FRAMES];
     let mut answers = [0u8; ANSWERS];
-    let delivered = update::deliver(
+    let delivered = deliver::deliver(
         recipe,
         blank,
         &mut flash,

@@ -3,20 +3,15 @@
 use mathlib.Core.Path.{_≡_, refl, sym, ap, _∙_}
 use mathlib.Core.Bool.{true, false}
 use mathlib.Core.List.{List, _++_}
-use Prim.Native.Nat.{ℕ, _+_, _*_, _/_, _≤_, _<_}
+use Prim.Native.Nat.{ℕ, _*_, _/_, _≤_, _<_}
 use native.Mathlib.Omega.{arith}
 use lib.ListN.{length, drop}
 use Rattle.recipe.proofs.Answers.{refusal-first, with-room, too-short}
 use Rattle.recipe.specs.declared.Translated.{Translated}
 use Rattle.recipe.specs.declared.Translated.the-variants.{Frames, Refused}
-use Rattle.recipe.specs.Frames.{framesOf, joined, itemsCount, frameCount}
+use Rattle.recipe.specs.Frames.{framesOf, joined, frameCount}
 use Rattle.recipe.specs.Reading.{Stop, atEnd, fault, reading, recipeOf}
 use Rattle.recipe.specs.Translation.{answerAt, checked, translated, outputAfter, translatedOutput}
-
--- one frame more than the items have
-pub count-is : (s : List ℕ) → frameCount (recipeOf s) ≡ itemsCount (reading s .items) + 1
-unfolding frameCount recipeOf
-count-is s = refl
 
 module _ (s : List ℕ) where
   counted : (t : Stop) (k n : ℕ) → answerAt t (length s) k ≡ Frames n → k ≡ n
@@ -28,6 +23,16 @@ module _ (s : List ℕ) where
   pub count-found : (n : ℕ) → checked s ≡ Frames n → frameCount (recipeOf s) ≡ n
   unfolding checked
   count-found n e = counted (reading s .stop) (frameCount (recipeOf s)) n e
+
+  accepted : (t : Stop) (k n : ℕ) → answerAt t (length s) k ≡ Frames n → t ≡ atEnd true
+  accepted (atEnd true) k n e = refl
+  accepted (atEnd false) k n e = cc
+  accepted (fault a b) k n e = cc
+
+  -- and the reading went to the end, where Leave had come
+  pub read-through : (n : ℕ) → checked s ≡ Frames n → reading s .stop ≡ atEnd true
+  unfolding checked
+  read-through n e = accepted (reading s .stop) (frameCount (recipeOf s)) n e
 
   -- an answer, with the output after it
   abbrev Answered : List ℕ → Translated → List ℕ → Type 0
@@ -49,8 +54,8 @@ module _ (s : List ℕ) where
           let t = too-short s n (sym c ∙ e) (length o) (omega arith) in
           (sym t, after (Refused 26 0) t)
 
-      pub enough : n ≤ length o / 12 → 12 * frameCount (recipeOf s) ≤ length o
-      enough h = omega (arith, count-found n (sym c ∙ e))
+      pub enough : n ≤ length o / 12 → (reading s .stop ≡ atEnd true) × (12 * frameCount (recipeOf s) ≤ length o)
+      enough h = (read-through n (sym c ∙ e), omega (arith, count-found n (sym c ∙ e)))
 
       pub answer-done : n ≤ length o / 12 → (o₁ : List ℕ)
           → o₁ ≡ joined (framesOf (recipeOf s)) ++ drop (12 * frameCount (recipeOf s)) o → Answered o (Frames n) o₁

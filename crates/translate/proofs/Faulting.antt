@@ -3,24 +3,16 @@
 use mathlib.Core.Path.{_≡_, sym, ap, ap₂, _∙_}
 use mathlib.Core.Bool.{Bool, true, false}
 use mathlib.Core.List.{List}
-use Prim.Native.Nat.{ℕ, _+_, _-_, _*_, _≤_, _<_}
-use native.Mathlib.Nat.{add-zero}
+use Prim.Native.Nat.{ℕ, _+_, _-_, _≤_, _<_}
 use lib.Dec.{eqb}
 use lib.ListN.{length, getD, drop, length-drop}
-use lib.Seq.{getD-drop}
 use Rattle.recipe.specs.Faults.{kindOf, known, bodyLength, addressOf, outOfPlace, addressIllegal, faultAt}
 use Rattle.recipe.specs.Reading.{sizeOf}
 use Rattle.translate.specs.declared.cursor.Cursor.{Cursor}
-use Rattle.translate.specs.Steps.{framesOfKind, nextOf}
+use Rattle.emit.specs.Emitted.{framesOfKind}
+use Rattle.emit.proofs.Fitting.{kind-at}
+use Rattle.translate.specs.Steps.{nextOf}
 use Rattle.recipe.proofs.Order.{item-2049, unknown-kind, out-of-place, cut-short, address-illegal, no-fault}
-
--- the kind and the address of what stands at a place
-pub kind-at : (s : List ℕ) (place : ℕ) → kindOf (drop place s) ≡ getD s place 0
-kind-at s place = getD-drop place s 0 0 ∙ ap (λ (n : ℕ). getD s n 0) (add-zero place)
-
-pub address-at : (s : List ℕ) (place x y z : ℕ) → x ≡ getD s (place + 1) 0 → y ≡ getD s (place + 2) 0 → z ≡ getD s (place + 3) 0
-    → x * 65536 + y * 256 + z ≡ addressOf (drop place s)
-address-at s place x y z p q r = rw (getD-drop place s 1 0, getD-drop place s 2 0, getD-drop place s 3 0, p, q, r)
 
 -- the code's tests in their order, each with those before it: which number is given
 module _ (s : List ℕ) (place number : ℕ) (ended : Bool) where

@@ -1,10 +1,11 @@
 -- Where a reading stands, and behind the next item. (For the private functions' contracts; the public one cites only the crate recipe.)
 use Prim.Native.Nat.{ℕ, _+_, _-_, _≤_, _<_}
 use mathlib.Core.Path.{_≡_}
-use mathlib.Core.Bool.{cond}
+use mathlib.Core.Bool.{Bool, cond}
 use mathlib.Core.List.{List}
 use lib.Dec.{eqb}
 use lib.ListN.{length, drop}
+use Rattle.emit.specs.Emitted.{framesOfKind}
 use Rattle.recipe.specs.Faults.{kindOf, faultAt}
 use Rattle.recipe.specs.Reading.{Reading, sizeOf, readFrom}
 use Rattle.translate.specs.declared.cursor.Cursor.{Cursor}
@@ -13,9 +14,9 @@ use Rattle.translate.specs.declared.cursor.Cursor.{Cursor}
 abbrev pub readOn : List ℕ → Cursor → Reading
 readOn input c = readFrom (2050 - c .number) (drop (c .place) input) (c .place) (c .number) (c .ended)
 
--- how many frames an item of a kind becomes while it is read; Leave's is put last
-abbrev pub framesOfKind : ℕ → ℕ
-framesOfKind kind = cond (eqb kind 0x02) 18 (cond (eqb kind 0x03) 2 0)
+-- the frames of Leave that are still to come
+abbrev pub leaveLeft : Bool → ℕ
+leaveLeft ended = cond ended 0 1
 
 -- the cursor behind the item that it stands at
 abbrev pub nextOf : List ℕ → Cursor → Cursor

@@ -2,7 +2,7 @@
 ghost use mathlib.Core.Path.{_≡_};
 ghost use Prim.Native.Nat.{_<_};
 ghost use lib.ListN.{length, drop};
-ghost use Rattle.recipe.specs.Faults.{addressOf, faultAt};
+ghost use Rattle.recipe.specs.Faults.{faultAt};
 ghost use Rattle.translate.specs.Steps.{nextOf, AtItem};
 
 // Where a reading stands: the place, the number of the item there, whether Leave has come, and the frames of the items before it.
@@ -11,23 +11,6 @@ pub struct Cursor {
     pub number: usize,
     pub ended: bool,
     pub frames: usize,
-}
-
-fn wide(x: u8) -> u32
-    ensures { λ r. ⌜ (r ≡ x) × (r < 256) ⌝ }
-{
-    x as u32
-}
-
-// The address in the body of the item at a place, high byte first.
-pub fn address_of(input: &[u8], place: usize) -> u32
-    requires { ⌜ place < length (now input) ⌝ }
-    ensures { λ r. ⌜ (r ≡ addressOf (drop place (now (input .entry)))) × (r < 0x1000000) ⌝ }
-{
-    let high = wide(base::byte_at(input, place + 1));
-    let middle = wide(base::byte_at(input, place + 2));
-    let low = wide(base::byte_at(input, place + 3));
-    high * 65536 + middle * 256 + low
 }
 
 // The number of the first refusal that holds of the item at a place, or 0.
@@ -48,7 +31,7 @@ pub fn fault_at(input: &[u8], place: usize, number: usize, ended: bool) -> u8
     if input.len() - place < 1 + crate::kind::body_length(kind) {
         return 22;
     }
-    if crate::kind::is_illegal(kind, address_of(input, place)) {
+    if crate::kind::is_illegal(kind, emit::address_of(input, place)) {
         return 24;
     }
     0

@@ -2,7 +2,7 @@
 ghost use mathlib.Core.Path.{_≡_};
 ghost use Prim.Native.Nat.{_<_};
 ghost use Rattle.recipe.specs.Faults.{known, bodyLength, outOfPlace, addressIllegal};
-ghost use Rattle.translate.specs.Steps.{framesOfKind};
+ghost use Rattle.emit.specs.Emitted.{framesOfKind};
 use address::EepromPlace;
 use address::FlashAddress;
 
@@ -31,13 +31,14 @@ pub fn body_length(kind: u8) -> usize
     }
 }
 
-// How many frames an item of a kind becomes while it is read.
+// How many frames an item of a kind becomes.
 pub fn frames_of_kind(kind: u8) -> usize
     ensures { λ r. ⌜ (r ≡ framesOfKind kind) × (r < 19) ⌝ }
 {
     match kind {
         0x02 => 18,
         0x03 => 2,
+        0x0F => 1,
         _ => 0,
     }
 }

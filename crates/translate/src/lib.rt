@@ -1,12 +1,17 @@
 // The translator: from a recipe's bytes to frames of 12 bytes each in a lent output.
 mod cursor;
-mod emit;
-mod frame;
 mod kind;
 
+ghost use mathlib.Core.Bool.{true};
+ghost use mathlib.Core.List.{_++_};
 ghost use mathlib.Core.Path.{_≡_};
-ghost use lib.ListN.{length};
+ghost use Prim.Native.Nat.{_*_, _≤_};
+ghost use lib.ListN.{length, drop};
+ghost use Rattle.recipe.specs.Frames.{framesOf, joined, frameCount};
+ghost use Rattle.recipe.specs.Reading.{atEnd, reading, recipeOf};
 ghost use Rattle.recipe.specs.Translation.{checked, translated, translatedOutput};
+use address::Group;
+use address::Module;
 use cursor::Cursor;
 use recipe::Translated;
 
@@ -26,7 +31,7 @@ fn check(input: &[u8]) -> Translated
         let ended = c.ended;
         if input.len() <= place {
             if ended {
-                return Translated::Frames(c.frames + 1);
+                return Translated::Frames(c.frames);
             }
             return Translated::Refused {
                 number: 20,
@@ -40,6 +45,27 @@ fn check(input: &[u8]) -> Translated
                 place: place,
             };
         }
+        c = cursor::next(input, c);
+    }
+}
+
+// Puts all frames of a recipe without fault, item by item. Bytes behind the last frame stay.
+fn put_frames(input: &[u8], output: &mut [u8])
+    requires { ⌜ (reading (now input) .stop ≡ atEnd true) × (12 * frameCount (recipeOf (now input)) ≤ length (now output)) ⌝ }
+    ensures { λ _. ⌜
+        now (output .exit)
+        ≡ joined (framesOf (recipeOf (now (input .entry)))) ++ drop (12 * frameCount (recipeOf (now (input .entry)))) (now (output .entry)) ⌝ }
+{
+    let m = Module(base::byte_at(input, 1));
+    let g = Group(base::byte_at(input, 2));
+    let mut c = Cursor {
+        place: 0,
+        number: 1,
+        ended: false,
+        frames: 0,
+    };
+    while c.place < input.len() {
+        emit::put_item(input, c.place, output, 12 * c.frames, m, g);
         c = cursor::next(input, c);
     }
 }
@@ -63,7 +89,7 @@ pub fn translate(recipe: &[u8], output: &mut [u8]) -> Translated
                     place: 0,
                 };
             }
-            emit::put_frames(recipe, output);
+            put_frames(recipe, output);
             Translated::Frames(count)
         }
     }

@@ -20,7 +20,7 @@ use Rattle.recipe.specs.Frames.{leaveFrame, framesOf, frameCount}
 use Rattle.recipe.specs.Plain.{Memories, plainItems, plainly}
 use Rattle.recipe.proofs.Framing.{count-frames}
 use Rattle.recipe.proofs.Plainly.{plain-items-sizes}
-use Rattle.update.specs.Delivery.{followed, delivered}
+use Rattle.deliver.specs.Delivery.{followed, delivered}
 use Rattle.update.specs.Mirror.{silent, answersOf}
 use Rattle.update.specs.Updated.{Ready, updated}
 use Rattle.update.proofs.Items.{items-delivered}

@@ -29,8 +29,8 @@ use Rattle.translate.proofs.translate.{signature as translate-signature}
 use Rattle.translate.proofs.translate.Kinds as translate-kinds
 use Rattle.translate.proofs.translate.Reads as translate-reads
 use Rattle.translate.proofs.Translating.{accepts-every-legal, refuses-short-output, accepts-only-legal}
-use Rattle.update.specs.Delivery.{Delivery, told, behind, followed, delivered}
-use Rattle.update.specs.Taken.{framesIn}
+use Rattle.deliver.specs.Delivery.{Delivery, told, behind, followed, delivered}
+use Rattle.deliver.specs.Taken.{framesIn}
 use Rattle.update.specs.Updated.{Ready, updated}
 use Rattle.update.proofs.AnswerThree.{answer-three}
 use Rattle.update.proofs.Taking.{recipe-taken}

@@ -23,7 +23,7 @@ use Rattle.recipe.specs.Frames.{framesOf, itemsCount, frameCount}
 use Rattle.recipe.specs.Plain.{Memories, plainItem, plainItems, plainly}
 use Rattle.recipe.proofs.Inside.{block-inside, row-inside}
 use Rattle.recipe.proofs.Plainly.{Each, OutsideFlash, OutsideEeprom, plain-block, plain-row, plain-item-sizes, plain-items-sizes, flash-unchanged, eeprom-unchanged, plain-sizes, plain-flash-unchanged, plain-eeprom-unchanged, bootfl-zero}
-use Rattle.update.specs.Delivery.{Delivery, delivered}
+use Rattle.deliver.specs.Delivery.{Delivery, delivered}
 use Rattle.update.specs.Mirror.{mirrored, answersOf}
 use Rattle.update.proofs.Mirroring.{answers-many, answers-last, answers-mirror, shows, erase-shown, write-shown, row-shown}
 use Rattle.update.specs.Updated.{Ready, updated}

@@ -19,7 +19,7 @@ use Rattle.recipe.specs.Items.{Item, block, row, LegalItem, LegalItems}
 use Rattle.recipe.specs.Frames.{writes, itemFrames, itemsFrames}
 use Rattle.recipe.specs.Plain.{Memories, plainItem, plainItems}
 use Rattle.recipe.proofs.Plainly.{plain-block, plain-row, plain-item-sizes}
-use Rattle.update.specs.Delivery.{Delivery, behind, delivered}
+use Rattle.deliver.specs.Delivery.{Delivery, behind, delivered}
 use Rattle.update.specs.Mirror.{mirrored}
 use Rattle.update.proofs.Rows.{Ends, pair, rows}
 

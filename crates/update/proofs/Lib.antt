@@ -5,9 +5,6 @@ pub mod Taking
 pub mod Calls
 pub mod Mirroring
 pub mod Corollaries
-pub mod Turns
-pub mod Outcome
-pub mod Tight
 pub mod Whole
 pub mod Keeping
 pub mod Serially

@@ -27,7 +27,7 @@ use Rattle.rules.specs.Step.{Step, canStep}
 use Rattle.rules.proofs.TidiedOnce.{programming}
 use Rattle.rules.proofs.Pairs.{addressTo, dataTo, showOf, writeFlash, answered, stages, writes-flash}
 use Rattle.recipe.specs.Frames.{writes}
-use Rattle.update.specs.Delivery.{Delivery, behind, followed, delivered}
+use Rattle.deliver.specs.Delivery.{Delivery, behind, followed, delivered}
 use Rattle.update.specs.Mirror.{mirrored}
 
 -- what a frame does, and then the others

@@ -16,7 +16,7 @@ use Rattle.node.proofs.uart_byte.Reads as reads
 use Rattle.recipe.specs.Items.{Recipe, Legal}
 use Rattle.recipe.specs.Frames.{framesOf}
 use Rattle.recipe.specs.Plain.{Memories}
-use Rattle.update.specs.Delivery.{Delivery, behind}
+use Rattle.deliver.specs.Delivery.{Delivery, behind}
 use Rattle.update.specs.Serial.{toldOnUart, followedOnUart, fed, wrappedAll, onSerial, OpenPort}
 use Rattle.update.specs.Updated.{Ready, updated}
 use Rattle.update.proofs.Serially.{answer-three-serial}

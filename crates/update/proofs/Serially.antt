@@ -28,7 +28,7 @@ use Rattle.recipe.specs.Items.{Recipe, Legal}
 use Rattle.recipe.specs.Frames.{itemsFrames, framesOf, joined}
 use Rattle.recipe.specs.Plain.{Memories}
 use Rattle.recipe.proofs.Framing.{Twelve, frames-twelve}
-use Rattle.update.specs.Delivery.{Delivery, told, behind, delivered}
+use Rattle.deliver.specs.Delivery.{Delivery, told, behind, delivered}
 use Rattle.update.specs.Serial.{toldOnUart, followedOnUart, fed, wrappedAll, incompleteTold, wrappedTold, onSerial, OpenPort}
 use Rattle.update.proofs.Keeping.{kept}
 use Rattle.update.specs.Mirror.{mirrored, silent as nothingTold, answersOf}

@@ -23,15 +23,15 @@ use Rattle.recipe.specs.Plain.{Memories}
 use Rattle.recipe.specs.Translation.{checked, translated}
 use Rattle.recipe.proofs.Accepts.{accepts-legal, output-legal, short-output}
 use Rattle.recipe.proofs.Answers.{refusal-first}
-use Rattle.update.specs.Delivery.{Delivery, delivered}
-use Rattle.update.specs.Delivering.{Left, handedBy, handedOver, roomFor, left, leftBy, deliverBy, deliverStep}
+use Rattle.deliver.specs.Delivery.{Delivery, delivered}
+use Rattle.deliver.specs.Delivering.{Left, handedBy, handedOver, roomFor, left, leftBy, deliverBy, deliverStep}
 use Rattle.update.specs.Updated.{Ready, wholly}
 use Rattle.update.proofs.AnswerThree.{answer-three}
-use Rattle.update.proofs.Outcome.{room-within}
+use Rattle.deliver.proofs.Outcome.{room-within}
 use Rattle.update.proofs.Taking.{recipe-taken}
-use Rattle.update.proofs.deliver.{signature}
-use Rattle.update.proofs.deliver.Kinds as kinds
-use Rattle.update.proofs.deliver.Reads as reads
+use Rattle.deliver.proofs.deliver.{signature}
+use Rattle.deliver.proofs.deliver.Kinds as kinds
+use Rattle.deliver.proofs.deliver.Reads as reads
 
 -- ---- over the definitions
 

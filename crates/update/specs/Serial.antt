@@ -13,7 +13,7 @@ use Rattle.rules.specs.declared.UartAnswer.{UartAnswer}
 use Rattle.rules.specs.Record.{heldOf}
 use Rattle.rules.specs.Uart.{UartStep, uartStep}
 use Rattle.recipe.specs.Frames.{joined}
-use Rattle.update.specs.Delivery.{Delivery, behind}
+use Rattle.deliver.specs.Delivery.{Delivery, behind}
 
 -- what is told of the answer to a byte: the number, how many replies, and the 15 bytes of the first (0 where there is none)
 abbrev pub toldOnUart : UartAnswer → List ℕ

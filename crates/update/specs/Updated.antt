@@ -11,9 +11,9 @@ use Rattle.recipe.specs.declared.Translated.the-variants.{Frames}
 use Rattle.recipe.specs.Items.{Recipe}
 use Rattle.recipe.specs.Frames.{framesOf, joined, frameCount}
 use Rattle.recipe.specs.Plain.{Memories, plainly}
-use Rattle.update.specs.Delivery.{Delivery}
+use Rattle.deliver.specs.Delivery.{Delivery}
 use Rattle.update.specs.Mirror.{answersOf}
-use Rattle.update.specs.Delivering.{Left, left}
+use Rattle.deliver.specs.Delivering.{Left, left}
 
 -- "a node in programming mode (tidied record) that bears the recipe's numbers, whatever is staged"
 pub record Ready (n : Node) (r : Recipe) : Type 0 where

@@ -3,7 +3,6 @@
 -- Assumes nothing.
 use Prim.Native.Nat.{_-_}
 use lib.ListN.{length}
-use native.Mathlib.Omega.{arith}
 use Rattle.translate.proofs.Walking.{Kept, kept-start, kept-done, kept-open, kept-fault, kept-next, at-item, nearer}
 use Rattle.translate.proofs.check.Statement.{statement}
 use Rattle.translate.proofs.check.Tie as tie
@@ -17,11 +16,8 @@ abbrev μ-loop : tie.MeasureT-loop
 loop-holds : tie.Need-loop-holds Inv-loop μ-loop
 loop-holds c = kept-start (c .before .args .input .now)
 
-add-t10 : tie.Need-add-t10 Inv-loop μ-loop
-add-t10 c = omega (arith, c .before .before .before .loop .inv .stands .small, c .before .before .before .loop .inv .stands .few)
-
 returns : tie.Need-returns Inv-loop μ-loop
-returns c = kept-done (c .before .before .before .before .before .args .input .now) (c .before .before .before .loop .c) (c .before .before .before .loop .inv) (c .before .before .if1 .taken) (c .before .if2 .taken)
+returns c = kept-done (c .before .before .before .before .args .input .now) (c .before .before .loop .c) (c .before .before .loop .inv) (c .before .if1 .taken) (c .if2 .taken)
 
 returns-2 : tie.Need-returns-2 Inv-loop μ-loop
 returns-2 c = kept-open (c .before .before .before .before .args .input .now) (c .before .before .loop .c) (c .before .before .loop .inv) (c .before .if1 .taken) (c .if2 .left)
@@ -50,7 +46,6 @@ check-spec =
     Inv-loop
     μ-loop
     loop-holds
-    add-t10
     returns
     returns-2
     fault-at-requires

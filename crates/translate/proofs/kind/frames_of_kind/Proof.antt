@@ -13,7 +13,11 @@ returns-2 : tie.Need-returns-2
 returns-2 c = rw (c .match .keys2) (refl, omega arith)
 
 returns-3 : tie.Need-returns-3
-returns-3 c = (simp (ne-eqb _ 2 (c .match .rest .0 .1), ne-eqb _ 3 (c .match .rest .1)), omega arith)
+returns-3 c = rw (c .match .keys3) (refl, omega arith)
+
+returns-4 : tie.Need-returns-4
+returns-4 c =
+    (simp (ne-eqb _ 2 (c .match .rest .0 .0 .1), ne-eqb _ 3 (c .match .rest .0 .1), ne-eqb _ 15 (c .match .rest .1)), omega arith)
 
 pub frames-of-kind-spec : {M : Type 1} → statement M
-frames-of-kind-spec = tie.close (tie.spec returns returns-2 returns-3)
+frames-of-kind-spec = tie.close (tie.spec returns returns-2 returns-3 returns-4)

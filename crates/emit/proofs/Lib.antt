@@ -1,0 +1,4 @@
+pub mod Putting
+pub mod Emitting
+pub mod Fitting
+pub mod Tight
