@@ -14,7 +14,7 @@ use Rattle.base.proofs.Choice.{true-both}
 use Rattle.sum.specs.Sum.{sumOf, firmwareSum}
 use Rattle.frames.specs.Frame.{typeOf}
 use Rattle.rules.specs.declared.HandledIn.the-variants.{InNormal}
-use Rattle.rules.specs.declared.Addressing.the-variants.{AsGroup, AsNode, OwnNumbers}
+use Rattle.rules.specs.declared.Addressing.the-variants.{AsGroup, AsNode, AllZero, OwnNumbers}
 use Rattle.rules.specs.declared.Request.the-variants.{EnterProgramming, WaitForRestart, HardwareType, FirmwareType, Description, DeviceId}
 use Rattle.rules.specs.declared.Staged.the-variants.{Nothing}
 use Rattle.rules.specs.declared.Mode.the-variants.{Normal, Programming, Waiting}
@@ -24,7 +24,7 @@ use Rattle.rules.specs.declared.Found.the-variants.{Handled, Unhandled}
 use Rattle.rules.specs.Record.{withMode, tidied}
 use Rattle.rules.specs.Requests.{isNormal, handledHere, isFor, asked}
 use Rattle.rules.specs.Outcomes.{isDeaf, misshapen, isResponse}
-use Rattle.rules.specs.Table.{kind, found, handledTypes}
+use Rattle.rules.specs.Table.{kind, lookIn, found, handledTypes}
 use Rattle.rules.specs.Step.{Step, acted, canStep}
 use Rattle.rules.proofs.Ruling.{sizes-full, obeys, not-in-table, not-in-mode, not-for-it}
 
@@ -220,8 +220,31 @@ module _ (n : Node) (f flash eeprom : List ℕ) (fl : length flash ≡ 65536) (e
       not-for-it n f flash eeprom (sizes-full flash eeprom fl el) shaped asking k e h
       (rw g (other-numbers (n .own .0) (n .group .0) (getD f 2 0) (getD f 3 0) d))
 
--- 0x107, 0x10B, 0x10C (supply voltage and what 001 has beside), 0x1F1 and 0x0F0 (error frames) are among the others
-pub others : (found 0x107 ≡ Unhandled) × (found 0x10B ≡ Unhandled) × (found 0x10C ≡ Unhandled) × (found 0x110 ≡ Unhandled)
-    × (found 0x1F1 ≡ Unhandled) × (found 0x0F0 ≡ Unhandled)
+  -- 0x010 whose frame module and group are not both 0x00
+  pub row-not-for-zero : (k : Kind) → found (typeOf f) ≡ Handled k → handledHere (k .handled) (tidied n .mode) ≡ true
+      → k .addressing ≡ AllZero → (getD f 2 0 ≡ 0x00 → ⊥) ⊎ (getD f 3 0 ≡ 0x00 → ⊥)
+      → canStep n f flash eeprom ≡ leaves 7 0 (replicate 24 0) (tidied n) flash eeprom
+  unfolding acted tidied
+  row-not-for-zero k e h g d =
+      not-for-it n f flash eeprom (sizes-full flash eeprom fl el) shaped asking k e h
+      (rw g (other-numbers 0x00 0x00 (getD f 2 0) (getD f 3 0) d))
+
+-- no number of a list is t
+abbrev pub NoneIs : List ℕ → ℕ → Type 0
+NoneIs [] t = Unit {0}
+NoneIs (x ∷ xs) t = (x ≡ t → ⊥) × NoneIs xs t
+
+-- "All other types: 6": every type but the fifteen is in no row of the table
+pub every-other : (t : ℕ)
+    → NoneIs (0x100 ∷ 0x101 ∷ 0x102 ∷ 0x103 ∷ 0x104 ∷ 0x105 ∷ 0x106 ∷ 0x10D ∷ 0x10E ∷ 0x10F ∷ 0x111 ∷ 0x010 ∷ 0x020 ∷ 0x030 ∷ 0x040 ∷ []) t
+    → found t ≡ Unhandled
 unfolding found handledTypes
-others = (refl, refl, refl, refl, refl, refl)
+every-other t h = none handledTypes h
+  where
+    types : List Kind → List ℕ
+    types [] = []
+    types (k ∷ ks) = k .«frame_type» ∷ types ks
+
+    none : (ks : List Kind) → NoneIs (types ks) t → lookIn ks t ≡ Unhandled
+    none [] o = refl
+    none (k ∷ ks) o = rw (ne-eqb (k .«frame_type») t (o .0)) (none ks (o .1))

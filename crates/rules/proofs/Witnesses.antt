@@ -16,8 +16,8 @@ use Rattle.rules.specs.declared.Mode.the-variants.{Normal, Programming, 
 use Rattle.rules.specs.declared.Node.{Node}
 use Rattle.frames.specs.Wrapping.{sumOf, wrappedOf}
 use Rattle.rules.specs.declared.HandledIn.the-variants.{InNormal, InProgramming}
-use Rattle.rules.specs.declared.Addressing.the-variants.{AsGroup, AsNode, OwnNumbers}
-use Rattle.rules.specs.declared.Request.the-variants.{EnterProgramming, HardwareType, DataFrame}
+use Rattle.rules.specs.declared.Addressing.the-variants.{AsGroup, AsNode, AllZero, OwnNumbers}
+use Rattle.rules.specs.declared.Request.the-variants.{EnterProgramming, HardwareType, LeaveProgramming, DataFrame}
 use Rattle.rules.specs.declared.Restarted.{Restarted}
 use Rattle.rules.specs.Record.{holding, heldOf, tidied}
 use Rattle.rules.specs.Requests.{isProgramming}
@@ -27,7 +27,7 @@ use Rattle.rules.specs.Restart.{restartStep}
 use Rattle.rules.specs.Uart.{silent, viaUart}
 use Rattle.rules.proofs.Restarting.{SumsAgree, restart-refused, restart-failed, restart-programming, restart-started, restart-not-started}
 use Rattle.rules.proofs.Agreement.{bytesIn, quietly, agreement, wrong-sum-or-stop, skipped}
-use Rattle.rules.proofs.Rows.{row-100, row-101-102, row-103-104, row-105-106, row-1F1, row-10D-10E, row-10F-111, row-other, row-other-mode, row-not-for-group, row-not-for-node, row-not-for-own}
+use Rattle.rules.proofs.Rows.{row-100, row-101-102, row-103-104, row-105-106, row-1F1, row-10D-10E, row-10F-111, row-other, row-other-mode, row-not-for-group, row-not-for-node, row-not-for-own, row-not-for-zero}
 use Rattle.rules.proofs.ProgrammingRows.{row-010-020, row-030-illegal, row-030-read-flash, row-030-write-flash, row-030-erase, row-030-read-eeprom, row-030-write-eeprom, row-040-nothing, row-040-read-flash, row-040-read-eeprom, row-040-write-flash, row-040-write-eeprom, row-040-erase}
 
 -- a node with numbers 05, 0A, and blank memories
@@ -127,11 +127,12 @@ module _ (F E : List ℕ) (fl : length F ≡ 65536) (el : length E ≡ 1024) whe
     ap numberIn (row-040-erase (nodeIn (Programming (Erase (record { 0 = 0x00FFC0 })))) F E fl el 7 7 7 7 7 7 7 7 0x00FFC0 refl),
   )
 
-  -- a frame with D2 not 0x00, and two to other numbers: 7
+  -- a frame with D2 not 0x00, two to other numbers, and 0x010 to the own numbers: 7
   pub foreign-met :
       (numberIn (canStep (nodeIn (Normal true)) (0x10 ∷ 0x30 ∷ 0 ∷ 0 ∷ 0 ∷ 0 ∷ 0x05 ∷ 0x00 ∷ 0 ∷ 0 ∷ 0 ∷ 0 ∷ []) F E) ≡ 7)
       × (numberIn (canStep (nodeIn (Normal true)) (0x10 ∷ 0x40 ∷ 0 ∷ 0 ∷ 0 ∷ 0 ∷ 0x06 ∷ 0x0A ∷ 0 ∷ 0 ∷ 0 ∷ 0 ∷ []) F E) ≡ 7)
       × (numberIn (canStep (nodeIn (Programming Nothing)) (0x04 ∷ 0x00 ∷ 0x05 ∷ 0x0B ∷ 0 ∷ 0 ∷ 0 ∷ 0 ∷ 0 ∷ 0 ∷ 0 ∷ 0 ∷ []) F E) ≡ 7)
+      × (numberIn (canStep (nodeIn (Programming Nothing)) (0x01 ∷ 0x00 ∷ 0x05 ∷ 0x0A ∷ 0 ∷ 0 ∷ 0 ∷ 0 ∷ 0 ∷ 0 ∷ 0 ∷ 0 ∷ []) F E) ≡ 7)
   unfolding nodeIn tidied found handledTypes
   foreign-met = (
     ap numberIn
@@ -143,6 +144,9 @@ module _ (F E : List ℕ) (fl : length F ≡ 65536) (el : length E ≡ 1024) whe
     ap numberIn
         (row-not-for-own (nodeIn (Programming Nothing)) (0x04 ∷ 0x00 ∷ 0x05 ∷ 0x0B ∷ 0 ∷ 0 ∷ 0 ∷ 0 ∷ 0 ∷ 0 ∷ 0 ∷ 0 ∷ []) F E fl el refl refl
         (kind 0x040 InProgramming OwnNumbers DataFrame) refl refl refl (inr (λ e. let z : _≡_ {A = ℕ} 0x0B 0x0A = e in omega arith))),
+    ap numberIn
+        (row-not-for-zero (nodeIn (Programming Nothing)) (0x01 ∷ 0x00 ∷ 0x05 ∷ 0x0A ∷ 0 ∷ 0 ∷ 0 ∷ 0 ∷ 0 ∷ 0 ∷ 0 ∷ 0 ∷ []) F E fl el refl refl
+        (kind 0x010 InProgramming AllZero LeaveProgramming) refl refl refl (inl (λ e. let z : _≡_ {A = ℕ} 0x05 0x00 = e in omega arith))),
   )
 
   -- S3 byte by byte: fourteen times 10, and then a step whose one reply is S4

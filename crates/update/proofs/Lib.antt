@@ -9,3 +9,4 @@ pub mod Whole
 pub mod Keeping
 pub mod Serially
 pub mod SerialCalls
+pub mod Witnesses
