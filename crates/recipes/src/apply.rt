@@ -1,10 +1,8 @@
 // A recipe is translated, and its frames are handed to a node.
-use crate::digest;
 use crate::hand;
 use crate::hand::Handed;
 use crate::header::Header;
 use crate::line::Line;
-use crate::record;
 use crate::slices;
 use recipe::Translated;
 use rules::Pin;
@@ -14,7 +12,7 @@ fn refused(number: u8, place: usize, output: &[u8]) -> Line {
     Line {
         number: number as u64,
         place: place as u64,
-        frames: digest::with_bytes(0, output),
+        frames: written::with_bytes(0, output),
         answers: 0,
         flash: 0,
         eeprom: 0,
@@ -41,15 +39,15 @@ fn started(flash: &[u8], eeprom: &[u8]) -> Handed {
 // The line of a recipe that became `count` frames.
 fn done(count: usize, output: &[u8], h: Handed, flash: &[u8], eeprom: &[u8]) -> Line {
     let node = h.node;
-    let last = record::bytes_of(node);
+    let last = written::bytes_of(node);
     Line {
         number: 0,
         place: count as u64,
-        frames: digest::with_bytes(0, output),
+        frames: written::with_bytes(0, output),
         answers: h.answers,
-        flash: digest::with_bytes(0, flash),
-        eeprom: digest::with_bytes(0, eeprom),
-        node: digest::with_bytes(0, &last),
+        flash: written::with_bytes(0, flash),
+        eeprom: written::with_bytes(0, eeprom),
+        node: written::with_bytes(0, &last),
     }
 }
 

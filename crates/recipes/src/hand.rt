@@ -1,5 +1,4 @@
 // Frames handed to a node, and the digest of its answers.
-use crate::digest;
 use crate::slices;
 use rules::Answer;
 use rules::Node;
@@ -14,20 +13,20 @@ pub struct Handed {
 fn with_answer(h: Handed, a: Answer) -> Handed {
     let replies = a.replies;
     let node = a.node;
-    let head = digest::with_bytes(h.answers, &[a.number, a.count]);
+    let head = written::with_bytes(h.answers, &[a.number, a.count]);
     Handed {
         node,
-        answers: digest::with_bytes(head, &replies),
+        answers: written::with_bytes(head, &replies),
     }
 }
 
 fn with_uart_answer(h: Handed, a: UartAnswer) -> Handed {
     let replies = a.replies;
     let node = a.node;
-    let head = digest::with_bytes(h.answers, &[a.number, a.count]);
+    let head = written::with_bytes(h.answers, &[a.number, a.count]);
     Handed {
         node,
-        answers: digest::with_bytes(head, &replies),
+        answers: written::with_bytes(head, &replies),
     }
 }
 

@@ -1,11 +1,9 @@
 // Reads a stream of recipes (second/PROTOCOL.md) from standard input, has the proved translator translate each, hands the frames to
 // the proved node and prints what that page says.
 mod apply;
-mod digest;
 mod hand;
 mod header;
 mod line;
-mod record;
 mod slices;
 
 use header::Header;

@@ -1,6 +1,4 @@
 // Answers written down: into the digest, and as a line in full where the session still prints those.
-use crate::digest;
-use crate::record;
 use crate::session;
 use crate::session::Session;
 use crate::slices;
@@ -48,7 +46,7 @@ fn finish(s: Session, bytes: &[u8]) -> Session {
     if 0 < s.full {
         print(bytes);
     }
-    session::answered(s, digest::with_bytes(s.digest, bytes))
+    session::answered(s, written::with_bytes(s.digest, bytes))
 }
 
 // The session after an event whose answer bytes, the kind in front, come in three pieces.
@@ -66,6 +64,6 @@ fn write_with(s: Session, head: &[u8], middle: &[u8], last: &[u8], line: &mut [u
 
 // The session with this node after an event whose answer ends with it as NODE.
 pub fn write_node(s: Session, head: &[u8], replies: &[u8], n: Node) -> Session {
-    let last = record::bytes_of(n);
+    let last = written::bytes_of(n);
     write(session::with_node(s, n), head, replies, &last)
 }

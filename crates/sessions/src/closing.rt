@@ -1,5 +1,4 @@
 // The closing line of a session.
-use crate::digest;
 use crate::session::CAN_FRAMES;
 use crate::session::COUNTS;
 use crate::session::RESTARTS;
@@ -34,8 +33,8 @@ pub fn close(s: Session, flash: &[u8], eeprom: &[u8]) {
     tell(b"session ", s.number);
     tell(b" events ", s.events);
     tell(b" digest ", s.digest);
-    tell(b" flash ", digest::with_bytes(0, flash));
-    tell(b" eeprom ", digest::with_bytes(0, eeprom));
+    tell(b" flash ", written::with_bytes(0, flash));
+    tell(b" eeprom ", written::with_bytes(0, eeprom));
     tell_counts(b" restart", &counts, RESTARTS, CAN_FRAMES);
     tell_counts(b" can", &counts, CAN_FRAMES, UART_BYTES);
     tell_counts(b" uart", &counts, UART_BYTES, COUNTS);

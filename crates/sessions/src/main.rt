@@ -2,10 +2,8 @@
 // says. Nothing is decided here: this program only takes records apart and writes answers down.
 mod answer;
 mod closing;
-mod digest;
 mod event;
 mod handed;
-mod record;
 mod session;
 mod slices;
 
