@@ -1,6 +1,5 @@
 // One event: the record is taken apart, the call is made, and its answer written down.
 ghost use Prim.Native.Nat.{_<_};
-use crate::answer;
 use crate::closing;
 use crate::handed;
 use crate::session;
@@ -9,6 +8,7 @@ use crate::session::RESTARTS;
 use crate::session::Session;
 use crate::session::UART_BYTES;
 use crate::slices;
+use crate::telling;
 use address::Address;
 use address::Ruled;
 use base::byte_at;
@@ -30,7 +30,7 @@ fn restart(s: Session, rec: &[u8], flash: &[u8], eeprom: &[u8]) -> Session {
 fn restarted(s: Session, r: Restarted) -> Session {
     let node = r.node;
     let next = session::counted(s, RESTARTS + r.number as usize);
-    answer::write_node(next, &[0x01, r.number], &[], node)
+    telling::write_node(next, &[0x01, r.number], &[], node)
 }
 
 // A CAN frame.
@@ -47,7 +47,7 @@ fn can_answered(s: Session, a: Answer) -> Session {
     let replies = a.replies;
     let node = a.node;
     let next = session::counted(s, CAN_FRAMES + a.number as usize);
-    answer::write_node(next, &[0x02, a.number, a.count], &replies, node)
+    telling::write_node(next, &[0x02, a.number, a.count], &replies, node)
 }
 
 // A UART byte.
@@ -63,7 +63,7 @@ fn uart_answered(s: Session, a: UartAnswer) -> Session {
     let replies = a.replies;
     let node = a.node;
     let next = session::counted(s, UART_BYTES + a.number as usize);
-    answer::write_node(next, &[0x03, a.number, a.count], &replies, node)
+    telling::write_node(next, &[0x03, a.number, a.count], &replies, node)
 }
 
 // A row of the lent memories.
@@ -77,7 +77,7 @@ fn show_lent<'a>(s: Session, at: u32, flash: &'a [u8], eeprom: &'a [u8]) -> Sess
     let number = show::show_number(flash, eeprom, at);
     let row = show::show_row(flash, eeprom, at);
     let length = (row.len() % 256) as u8;
-    answer::write(s, &[0x04, number, length], row, &[])
+    telling::write(s, &[0x04, number, length], row, &[])
 }
 
 // How many cells are lent, above one fewer than the memory has.
@@ -125,7 +125,7 @@ fn to_hapcan(s: Session, rec: &[u8], output: &mut [u8]) -> Session {
     let input = slices::part(rec, 7, handed::length(rec, 5));
     let out = slices::lent(output, handed::length(rec, 6));
     let number = frames::to_hapcan(handed::number(rec, 1), input, out);
-    answer::write(s, &[0x0A, number], out, &[])
+    telling::write(s, &[0x0A, number], out, &[])
 }
 
 // The answer's bytes before the output: kind, number, and the identifier's four.
@@ -146,21 +146,21 @@ fn to_can(s: Session, rec: &[u8], output: &mut [u8]) -> Session {
     let out = slices::lent(output, handed::length(rec, 2));
     let r = frames::to_can(input, out);
     let head = identified(r.number, r.identifier);
-    answer::write(s, &head, out, &[])
+    telling::write(s, &head, out, &[])
 }
 
 fn wrap(s: Session, rec: &[u8], output: &mut [u8]) -> Session {
     let input = slices::part(rec, 3, handed::length(rec, 1));
     let out = slices::lent(output, handed::length(rec, 2));
     let number = wrap::wrap(input, out);
-    answer::write(s, &[0x0C, number], out, &[])
+    telling::write(s, &[0x0C, number], out, &[])
 }
 
 fn unwrap(s: Session, rec: &[u8], output: &mut [u8]) -> Session {
     let input = slices::part(rec, 3, handed::length(rec, 1));
     let out = slices::lent(output, handed::length(rec, 2));
     let number = wrap::unwrap(input, out);
-    answer::write(s, &[0x0D, number], out, &[])
+    telling::write(s, &[0x0D, number], out, &[])
 }
 
 // What the address rule says: its number, and which memory.
@@ -168,14 +168,14 @@ fn rule(s: Session, rec: &[u8]) -> Session {
     let r = address::rule(handed::number(rec, 1), handed::number(rec, 5));
     match r {
         Ruled::Legal(a) => ruled(s, a),
-        Ruled::Illegal => answer::write(s, &[0x0E, 8, 2], &[], &[]),
+        Ruled::Illegal => telling::write(s, &[0x0E, 8, 2], &[], &[]),
     }
 }
 
 fn ruled(s: Session, a: Address) -> Session {
     match a {
-        Address::Flash(_) => answer::write(s, &[0x0E, 0, 0], &[], &[]),
-        Address::Eeprom(_) => answer::write(s, &[0x0E, 0, 1], &[], &[]),
+        Address::Flash(_) => telling::write(s, &[0x0E, 0, 0], &[], &[]),
+        Address::Eeprom(_) => telling::write(s, &[0x0E, 0, 1], &[], &[]),
     }
 }
 

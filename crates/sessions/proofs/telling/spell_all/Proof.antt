@@ -5,8 +5,8 @@ use Prim.Native.Nat.{_-_}
 use mathlib.Core.Path.{_≡_}
 use lib.ListN.{length}
 use native.Mathlib.Omega.{arith}
-use Rattle.sessions.proofs.answer.spell_all.Statement.{statement}
-use Rattle.sessions.proofs.answer.spell_all.Tie as tie
+use Rattle.sessions.proofs.telling.spell_all.Statement.{statement}
+use Rattle.sessions.proofs.telling.spell_all.Tie as tie
 
 abbrev Inv-loop : tie.InvT-loop
 Inv-loop text₀ bytes end₀ i₀ text end i = length text ≡ length text₀
