@@ -1,4 +1,4 @@
--- A part of a list of cells, and a list with a part replaced.
+-- A part of a list of cells, a list with a part replaced, and the sum of a list.
 use Prim.Native.Nat.{ℕ, zero, suc, _+_}
 use mathlib.Core.List.{List, [], _∷_, _++_}
 use lib.ListN.{length, getD, take, drop}
@@ -15,3 +15,8 @@ patch m a new = take a m ++ (new ++ drop (a + length new) m)
 abbrev pub listed : List ℕ → ℕ → ℕ → List ℕ
 listed m i zero = []
 listed m i (suc k) = getD m i 0 ∷ listed m (suc i) k
+
+-- the sum of a list's numbers
+abbrev pub sumOf : List ℕ → ℕ
+sumOf [] = 0
+sumOf (x ∷ xs) = x + sumOf xs

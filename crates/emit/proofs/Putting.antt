@@ -10,20 +10,6 @@ use lib.Seq.{drop-append-add, take-all, drop-cons, drop-drop, take-at}
 use Rattle.base.specs.Parts.{patch}
 use Rattle.base.proofs.Patched.{length-patch}
 
--- n elements from k on, written out
-abbrev firsts : ℕ → ℕ → List ℕ → List ℕ
-firsts zero k d = []
-firsts (suc n) k d = getD d k 0 ∷ firsts n (suc k) d
-
-firsts-is : (n k : ℕ) (d : List ℕ) → k + n ≤ length d → firsts n k d ≡ take n (drop k d)
-firsts-is zero k d h = refl
-firsts-is (suc n) k d h =
-    ap (λ (l : List ℕ). getD d k 0 ∷ l) (firsts-is n (suc k) d (omega arith)) ∙ sym (ap (take (suc n)) (drop-cons d k 0 (omega arith)))
-
--- a list of eight is its eight elements
-pub eight : (d : List ℕ) → length d ≡ 8 → firsts 8 0 d ≡ d
-eight d h = firsts-is 8 0 d (omega arith) ∙ take-all 8 d (omega arith)
-
 -- a part behind a part
 pub patch-patch : (o x y : List ℕ) (p q : ℕ) → p + length x ≤ length o → q ≡ p + length x → patch (patch o p x) q y ≡ patch o p (x ++ y)
 unfolding patch

@@ -10,7 +10,8 @@ use lib.ListN.{length, getD, take, drop, length-append, length-take, length-drop
 use lib.Seq.{drop-cons, getD-append-add, take-at}
 use borrow.Author.Tests.{eq-eqb, eqb-true}
 use Rattle.base.proofs.Choice.{both-true}
-use Rattle.frames.specs.Wrapping.{sumOf, wrappedOf, innerOf, rightlyWrapped}
+use Rattle.base.specs.Parts.{sumOf}
+use Rattle.frames.specs.Wrapping.{wrappedOf, innerOf, rightlyWrapped}
 
 module _ (f : List ℕ) (l : length f ≡ 12) where
   -- the wrapping of a frame is fifteen bytes with a right start, sum and stop

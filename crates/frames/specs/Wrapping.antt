@@ -1,15 +1,10 @@
 -- A frame on UART (document 01, "Frames"; 001, under table 1).
-use Prim.Native.Nat.{ℕ, _+_, _%_}
+use Prim.Native.Nat.{ℕ, _%_}
 use mathlib.Core.Bool.{Bool, _&&_}
 use mathlib.Core.List.{List, [], _∷_, _++_}
 use lib.Dec.{eqb}
 use lib.ListN.{length, getD}
-use Rattle.base.specs.Parts.{part}
-
--- the sum of a list's bytes
-unfoldable pub sumOf : List ℕ → ℕ
-sumOf [] = 0
-sumOf (x ∷ xs) = x + sumOf xs
+use Rattle.base.specs.Parts.{part, sumOf}
 
 -- "On UART a frame is 0xAA, the 12 bytes, the sum of the 12 modulo 256, 0xA5."
 unfoldable pub wrappedOf : List ℕ → List ℕ

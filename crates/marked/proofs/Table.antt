@@ -4,7 +4,8 @@ use mathlib.Core.Path.{_≡_, refl}
 use mathlib.Core.Bool.{true}
 use Rattle.address.specs.Rule.{ruled}
 use Rattle.frames.specs.Frame.{identifierOf, headOf}
-use Rattle.frames.specs.Wrapping.{sumOf, wrappedOf, rightlyWrapped}
+use Rattle.base.specs.Parts.{sumOf}
+use Rattle.frames.specs.Wrapping.{wrappedOf, rightlyWrapped}
 use Rattle.cells.specs.Leaves.{flashCellsAfter}
 use Rattle.sum.specs.Sum.{firmwareSum, storedSumOf, starts}
 use Rattle.recipe.specs.Faults.{rulesAt, faultAt}
@@ -20,5 +21,5 @@ use Rattle.marked.specs.Entries.{allRight}
 use Rattle.marked.specs.Samples.{samples}
 
 pub samples-hold : allRight samples ≡ true
-unfolding samples headOf identifierOf heldOf tidied uartStep sumOf wrappedOf rightlyWrapped handledTypes found decided acted ruled flashCellsAfter rulesAt faultAt readFrom reading recipeOf itemFrames itemsFrames framesOf joined itemsCount frameCount checked translated translatedOutput firmwareSum storedSumOf starts
+unfolding samples headOf identifierOf heldOf tidied uartStep wrappedOf rightlyWrapped handledTypes found decided acted ruled flashCellsAfter rulesAt faultAt readFrom reading recipeOf itemFrames itemsFrames framesOf joined itemsCount frameCount checked translated translatedOutput firmwareSum storedSumOf starts
 samples-hold = refl

@@ -63,9 +63,9 @@ module _ (κs : Lfts 3) (a : ArgsD can-frame-signature κs) (r : ResD can-frame-
       (ap (λ (x : Step). length (x .flash)) p ∙ l .0, ap (λ (x : Step). length (x .eeprom)) p ∙ l .1)
 
   -- in normal mode FLASH stays, and EEPROM but for BOOTFL
-  pub can-frame-normal : (started : Bool) → a .0 .mode ≡ Normal started
+  pub can-frame-normal-spares : (started : Bool) → a .0 .mode ≡ Normal started
       → ButBootfl ((a .1 .1 .0) .now) ((a .1 .1 .1 .0) .now) ((s .1 .1 .0) .now) ((s .1 .1 .1 .0) .now)
-  can-frame-normal started m =
+  can-frame-normal-spares started m =
       subst (λ (x : Step). ButBootfl ((a .1 .1 .0) .now) ((a .1 .1 .1 .0) .now) (x .flash) (x .eeprom)) (sym p)
       (can-normal-spares (a .0) started ((a .1 .0) .now) ((a .1 .1 .0) .now) ((a .1 .1 .1 .0) .now) m)
 
@@ -98,9 +98,9 @@ module _ (κs : Lfts 2) (a : ArgsD uart-byte-signature κs) (r : ResD uart-byte-
       let l = uart-lengths (a .0) (a .1 .0) ((a .1 .1 .0) .now) ((a .1 .1 .1 .0) .now) in
       (ap (λ (x : UartStep). length (x .flash)) p ∙ l .0, ap (λ (x : UartStep). length (x .eeprom)) p ∙ l .1)
 
-  pub uart-byte-normal : (started : Bool) → a .0 .mode ≡ Normal started
+  pub uart-byte-normal-spares : (started : Bool) → a .0 .mode ≡ Normal started
       → ButBootfl ((a .1 .1 .0) .now) ((a .1 .1 .1 .0) .now) ((s .1 .1 .0) .now) ((s .1 .1 .1 .0) .now)
-  uart-byte-normal started m =
+  uart-byte-normal-spares started m =
       subst (λ (x : UartStep). ButBootfl ((a .1 .1 .0) .now) ((a .1 .1 .1 .0) .now) (x .flash) (x .eeprom)) (sym p)
       (uart-normal-spares (a .0) started (a .1 .0) ((a .1 .1 .0) .now) ((a .1 .1 .1 .0) .now) m)
 

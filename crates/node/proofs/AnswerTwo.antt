@@ -12,7 +12,8 @@ use borrow.Fn.World.{ArgsD, ResD}
 use denote.Triple.Clauses.{AtExit}
 use borrow.Fn.Kinds.{endedOf}
 use Rattle.frames.specs.Frame.{typeOf}
-use Rattle.frames.specs.Wrapping.{sumOf, wrappedOf, innerOf}
+use Rattle.base.specs.Parts.{sumOf}
+use Rattle.frames.specs.Wrapping.{wrappedOf, innerOf}
 use Rattle.rules.specs.declared.Pin.the-variants.{CanAndUart}
 use Rattle.rules.specs.declared.Mode.the-variants.{Normal}
 use Rattle.rules.specs.declared.Node.{Node}

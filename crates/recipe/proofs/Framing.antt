@@ -85,7 +85,7 @@ unfolding itemFrames
 item-count m g (block a d) = omega (arith, writes-count m g 8 a d)
 item-count m g (row a d) = refl
 
-items-count : (m g : ℕ) (is : List Item) → length (itemsFrames m g is) ≡ itemsCount is
+pub items-count : (m g : ℕ) (is : List Item) → length (itemsFrames m g is) ≡ itemsCount is
 unfolding itemsFrames itemsCount
 items-count m g [] = refl
 items-count m g (i ∷ is) =

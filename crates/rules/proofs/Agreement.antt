@@ -11,7 +11,8 @@ use lib.ListN.{length, getD, take, replicate, length-append}
 use borrow.Author.Tests.{eq-eqb, ne-eqb, lt-ltb, le-ltb}
 use Rattle.base.proofs.Choice.{cond-true, cond-false, cond-same}
 use Rattle.address.specs.Places.{full}
-use Rattle.frames.specs.Wrapping.{sumOf, wrappedOf, innerOf, rightlyWrapped}
+use Rattle.base.specs.Parts.{sumOf}
+use Rattle.frames.specs.Wrapping.{wrappedOf, innerOf, rightlyWrapped}
 use Rattle.frames.proofs.Wrapped.{wrapped-length, wrapped-inner, wrapped-right, right-says}
 use Rattle.rules.specs.declared.Pin.the-variants.{CanAndUart}
 use Rattle.rules.specs.declared.Node.{Node}

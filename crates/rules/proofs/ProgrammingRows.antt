@@ -36,6 +36,7 @@ use Rattle.rules.specs.Requests.{isProgramming, isFor, staging, doing, a
 use Rattle.rules.specs.Outcomes.{misshapen, isResponse}
 use Rattle.rules.specs.Table.{kind, found, handledTypes}
 use Rattle.rules.specs.Step.{acted, canStep}
+use Rattle.rules.proofs.TidiedOnce.{tidied-legal}
 use Rattle.rules.proofs.Ruling.{sizes-full, obeys}
 use Rattle.rules.proofs.Rows.{leaves}
 use Rattle.rules.proofs.ShownRows.{flash-row, eeprom-row, flash-put, flash-shows, eeprom-shows}
@@ -43,19 +44,6 @@ use Rattle.rules.proofs.ShownRows.{flash-row, eeprom-row, flash-put, fl
 -- two numbers that are the own ones
 own-own : (m g : ℕ) → (eqb m m && eqb g g) ≡ true
 own-own m g = true-both (eqb m m) _ (eq-eqb m m refl) (eq-eqb g g refl)
-
--- what a tidied record has staged is legal
-tidy-legal : (m : Mode) (s : Staged) → tidyMode m ≡ Programming s → legalStaged s ≡ true
-tidy-legal (Normal b) s e = cc
-tidy-legal (Programming t) s e =
-    let h : tidyStaged t ≡ s = cc in
-    rw h at (by-cond (λ (x : Staged). legalStaged x ≡ true) (legalStaged t) t Nothing (λ l. l) (λ _. refl))
-tidy-legal Error s e = cc
-tidy-legal Waiting s e = cc
-
-pub staged-legal : (n : Node) (s : Staged) → tidied n .mode ≡ Programming s → legalStaged s ≡ true
-unfolding tidied
-staged-legal n s e = tidy-legal (n .mode) s e
 
 -- what is legal neither on FLASH nor on EEPROM is illegal
 ruled-illegal : (a command : ℕ) → legalFlash a command ≡ false → legalEeprom a command ≡ false → ruled a command ≡ Illegal
@@ -171,7 +159,7 @@ module _ (n : Node) (flash eeprom : List ℕ) (fl : length flash ≡ 65536) (el 
       (tidied n) flash eeprom
   unfolding acted tidied
   row-040-read-flash a e =
-      let h = staged-legal n (Read (Flash (record { 0 = a }))) e in
+      let h = tidied-legal n (Read (Flash (record { 0 = a }))) e in
       by-data (Read (Flash (record { 0 = a }))) e
       ∙ ap (λ (d : List ℕ). leaves 0 1 ((0x04 ∷ 0x01 ∷ n .own .0 ∷ n .group .0 ∷ d) ++ replicate 12 0) (tidied n) flash eeprom) (flash-row flash eeprom fl el a h)
 
@@ -184,7 +172,7 @@ module _ (n : Node) (flash eeprom : List ℕ) (fl : length flash ≡ 65536) (el 
       (tidied n) flash eeprom
   unfolding acted tidied
   row-040-read-eeprom p e =
-      let h = staged-legal n (Read (Eeprom (record { 0 = p }))) e in
+      let h = tidied-legal n (Read (Eeprom (record { 0 = p }))) e in
       by-data (Read (Eeprom (record { 0 = p }))) e
       ∙ ap (λ (d : List ℕ). leaves 0 1 ((0x04 ∷ 0x01 ∷ n .own .0 ∷ n .group .0 ∷ d) ++ replicate 12 0) (tidied n) flash eeprom) (eeprom-row flash eeprom fl el p h)
 
@@ -202,7 +190,7 @@ module _ (n : Node) (flash eeprom : List ℕ) (fl : length flash ≡ 65536) (el 
       eeprom
   unfolding acted tidied
   row-040-write-flash a e =
-      let h = staged-legal n (Write (Flash (record { 0 = a }))) e in
+      let h = tidied-legal n (Write (Flash (record { 0 = a }))) e in
       let w = flash-within a 0x02 h in
       let new : List ℕ = bitAnd (getD flash a 0) d0 ∷ bitAnd (getD flash (a + 1) 0) d1 ∷ bitAnd (getD flash (a + 2) 0) d2 ∷ bitAnd (getD flash (a + 3) 0) d3 ∷ bitAnd (getD flash (a + 4) 0) d4 ∷ bitAnd (getD flash (a + 5) 0) d5 ∷ bitAnd (getD flash (a + 6) 0) d6 ∷ bitAnd (getD flash (a + 7) 0) d7 ∷ [] in
       by-data (Write (Flash (record { 0 = a }))) e
@@ -217,7 +205,7 @@ module _ (n : Node) (flash eeprom : List ℕ) (fl : length flash ≡ 65536) (el 
       (patch eeprom (p - 0xF00000) (d0 ∷ d1 ∷ d2 ∷ d3 ∷ d4 ∷ d5 ∷ d6 ∷ d7 ∷ []))
   unfolding acted tidied
   row-040-write-eeprom p e =
-      let h = staged-legal n (Write (Eeprom (record { 0 = p }))) e in
+      let h = tidied-legal n (Write (Eeprom (record { 0 = p }))) e in
       let w = eeprom-within p 0x02 h in
       let new : List ℕ = d0 ∷ d1 ∷ d2 ∷ d3 ∷ d4 ∷ d5 ∷ d6 ∷ d7 ∷ [] in
       by-data (Write (Eeprom (record { 0 = p }))) e
@@ -232,7 +220,7 @@ module _ (n : Node) (flash eeprom : List ℕ) (fl : length flash ≡ 65536) (el 
       (patch flash a (replicate 64 0xFF)) eeprom
   unfolding acted tidied
   row-040-erase a e =
-      let h = staged-legal n (Erase (record { 0 = a })) e in
+      let h = tidied-legal n (Erase (record { 0 = a })) e in
       let w = flash-within a 0x03 h in
       by-data (Erase (record { 0 = a })) e
       ∙ ap (λ (m : List ℕ). leaves 0 1 ((0x04 ∷ 0x01 ∷ n .own .0 ∷ n .group .0 ∷ listed (shown m eeprom a) 0 8) ++ replicate 12 0) (tidied n) m eeprom)

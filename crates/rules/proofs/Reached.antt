@@ -6,7 +6,8 @@ use mathlib.Core.List.{List, [], _∷_, _++_}
 use Prim.Native.Nat.{ℕ, _%_}
 use lib.ListN.{replicate}
 use Rattle.address.specs.Rule.{ruled}
-use Rattle.frames.specs.Wrapping.{sumOf, wrappedOf, rightlyWrapped}
+use Rattle.base.specs.Parts.{sumOf}
+use Rattle.frames.specs.Wrapping.{wrappedOf, rightlyWrapped}
 use Rattle.rules.specs.declared.Pin.{Pin}
 use Rattle.rules.specs.declared.Pin.the-variants.{CanOnly, CanAndUart}
 use Rattle.rules.specs.declared.Staged.the-variants.{Nothing}
@@ -75,5 +76,5 @@ pub uart-reached : (last CanAndUart (Normal false) (begun (frame 0x10 0x40 toNod
     ∷ last CanAndUart (Programming Nothing) (begun (frame 0x03 0x00 belowRim)) 0xA5
     ∷ last CanAndUart (Programming Nothing) (begun (frame 0x04 0x00 eight)) 0xA5 ∷ [])
     ≡ 0 ∷ 1 ∷ 2 ∷ 3 ∷ 10 ∷ 11 ∷ 4 ∷ 5 ∷ 6 ∷ 7 ∷ 8 ∷ 9 ∷ []
-unfolding last uartStep tidied heldOf decided found handledTypes acted ruled afterBad sumOf wrappedOf rightlyWrapped
+unfolding last uartStep tidied heldOf decided found handledTypes acted ruled afterBad wrappedOf rightlyWrapped
 uart-reached = refl

@@ -8,8 +8,8 @@ use Prim.Native.Nat.{ℕ, _+_, _*_}
 use lib.Dec.{eqb}
 use lib.ListN.{length, getD, replicate}
 use borrow.Author.Tests.{eq-eqb, ne-eqb}
-use Rattle.base.specs.Parts.{part}
-use Rattle.sum.specs.Sum.{sumOf, storedSumOf, starts}
+use Rattle.base.specs.Parts.{part, sumOf}
+use Rattle.sum.specs.Sum.{storedSumOf, starts}
 use Rattle.sum.proofs.Laws.{starts-if, starts-only-if}
 use Rattle.rules.specs.declared.Pin.{Pin}
 use Rattle.rules.specs.declared.Staged.the-variants.{Nothing}

@@ -9,9 +9,9 @@ use Prim.Native.Nat.{ℕ, _+_, _/_, _%_}
 use lib.Dec.{eqb}
 use lib.ListN.{length, getD, set, replicate}
 use borrow.Author.Tests.{eq-eqb, ne-eqb}
-use Rattle.base.specs.Parts.{part}
+use Rattle.base.specs.Parts.{part, sumOf}
 use Rattle.base.proofs.Choice.{true-both}
-use Rattle.sum.specs.Sum.{sumOf, firmwareSum}
+use Rattle.sum.specs.Sum.{firmwareSum}
 use Rattle.frames.specs.Frame.{typeOf}
 use Rattle.rules.specs.declared.HandledIn.the-variants.{InNormal}
 use Rattle.rules.specs.declared.Addressing.the-variants.{AsGroup, AsNode, AllZero, OwnNumbers}

@@ -43,7 +43,7 @@ use Rattle.rules.specs.Replies.{quiet}
 use Rattle.rules.specs.Step.{Step, after, acted, obeyed, canStep}
 use Rattle.rules.specs.Restart.{modeAfter, nodeAfter, restartStep}
 use Rattle.rules.specs.Uart.{UartStep, taken, incomplete, afterBad, isClosed, uartStep}
-use Rattle.rules.proofs.Tidying.{Holdable, held-holdable, holding-tidy, tidy-twice, mode-twice}
+use Rattle.rules.proofs.Tidying.{Holdable, held-holdable, holding-tidy, tidy-twice, tidied-mode}
 
 -- ---- what a frame stages is legal
 
@@ -139,10 +139,6 @@ acted-tidy n e (Clear a) l f flash eeprom = e
 obeyed-tidy : (n : Node) → tidied n ≡ n → (f flash eeprom : List ℕ)
     → tidied (obeyed n f flash eeprom .answer .node) ≡ obeyed n f flash eeprom .answer .node
 obeyed-tidy n e f flash eeprom = acted-tidy n e (decided n f) (decided-legal n f) f flash eeprom
-
-tidied-mode : (n : Node) → tidyMode (tidied n .mode) ≡ tidied n .mode
-unfolding tidied
-tidied-mode n = mode-twice (n .mode)
 
 -- ---- the calls
 

@@ -66,6 +66,10 @@ mode-twice (Programming s) = ap Programming (staged-twice s)
 mode-twice Error = refl
 mode-twice Waiting = refl
 
+pub tidied-mode : (n : Node) → tidyMode (tidied n .mode) ≡ tidied n .mode
+unfolding tidied
+tidied-mode n = mode-twice (n .mode)
+
 -- a record that holds such bytes in a tidy mode is tidy
 pub holding-tidy : (n : Node) (xs : List ℕ) → Holdable xs → tidyMode (n .mode) ≡ n .mode → tidied (holding n xs) ≡ holding n xs
 unfolding tidied

@@ -14,7 +14,8 @@ use Rattle.rules.specs.declared.Staged.the-variants.{Nothing, Read, Writ
 use Rattle.rules.specs.declared.Mode.{Mode}
 use Rattle.rules.specs.declared.Mode.the-variants.{Normal, Programming, Error}
 use Rattle.rules.specs.declared.Node.{Node}
-use Rattle.frames.specs.Wrapping.{sumOf, wrappedOf}
+use Rattle.base.specs.Parts.{sumOf}
+use Rattle.frames.specs.Wrapping.{wrappedOf}
 use Rattle.rules.specs.declared.HandledIn.the-variants.{InNormal, InProgramming}
 use Rattle.rules.specs.declared.Addressing.the-variants.{AsGroup, AsNode, AllZero, OwnNumbers}
 use Rattle.rules.specs.declared.Request.the-variants.{EnterProgramming, HardwareType, LeaveProgramming, DataFrame}
@@ -154,11 +155,11 @@ module _ (F E : List ℕ) (fl : length F ≡ 65536) (el : length E ≡ 1024) whe
       bytesIn S3 (nodeIn (Normal true)) F E
       ≡ quietly (nodeIn (Normal true)) [] (0xAA ∷ 0x10 ∷ 0x00 ∷ 0xF0 ∷ 0xF0 ∷ 0xFF ∷ 0xFF ∷ 0x05 ∷ 0x0A ∷ 0xFF ∷ 0xFF ∷ 0xFF ∷ 0xFF ∷ 0xF9 ∷ []) F E
       ++ (viaUart (canStep (nodeIn (Normal true)) asks F E) ∷ [])
-  unfolding nodeIn tidied heldOf wrappedOf sumOf S3 asks
+  unfolding nodeIn tidied heldOf wrappedOf S3 asks
   agreement-met = agreement (nodeIn (Normal true)) F E asks fl el refl refl refl refl refl
 
   pub S3-S4 : viaUart (canStep (nodeIn (Normal true)) asks F E) .answer .replies ≡ S4 ++ replicate 15 0
-  unfolding nodeIn tidied wrappedOf sumOf S4 asks
+  unfolding nodeIn tidied wrappedOf S4 asks
   S3-S4 =
       ap (λ (s : Step). viaUart s .answer .replies)
       (row-100 (nodeIn (Normal true)) F E fl el true refl 0xF0 0xF0 0xFF 0xFF 0x05 0x0A 0xFF 0xFF 0xFF 0xFF (refl, refl))

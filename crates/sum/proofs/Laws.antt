@@ -8,12 +8,12 @@ use native.Mathlib.Omega.{arith}
 use lib.Dec.{eqb}
 use lib.ListN.{length, replicate}
 use borrow.Author.Tests.{eqb-true, eq-eqb}
-use Rattle.base.specs.Parts.{part}
+use Rattle.base.specs.Parts.{part, sumOf}
 use Rattle.base.proofs.Bytes.{Bytes, bytes-part}
 use Rattle.base.proofs.Choice.{by-cond}
 use Rattle.base.proofs.Patched.{part-length}
-use Rattle.sum.specs.Sum.{sumOf, firmwareSum, storedSumOf, starts}
-use Rattle.sum.proofs.Sums.{sum-most}
+use Rattle.sum.specs.Sum.{firmwareSum, storedSumOf, starts}
+use Rattle.base.proofs.Sums.{sum-most}
 
 -- "it is at most 7,310,595 and so never passes 24 bits"
 pub firmware-sum-most : (flash : List ℕ) → Bytes flash → firmwareSum flash ≤ 7310595

@@ -1,15 +1,11 @@
 -- The sums of document 01, "Memories and the plate", and when firmware starts.
 use Prim.Native.Nat.{ℕ, _+_, _*_}
 use mathlib.Core.Bool.{Bool, false, cond}
-use mathlib.Core.List.{List, [], _∷_}
+use mathlib.Core.List.{List}
 use lib.Dec.{eqb}
 use lib.ListN.{length, getD}
-use Rattle.base.specs.Parts.{part}
+use Rattle.base.specs.Parts.{part, sumOf}
 use Rattle.address.specs.Places.{flashCells, storedSum, firstSummed, summedCells}
-
-abbrev pub sumOf : List ℕ → ℕ
-sumOf [] = 0
-sumOf (x ∷ xs) = x + sumOf xs
 
 -- three bytes, high byte first
 abbrev pub highFirst : ℕ → ℕ → ℕ → ℕ

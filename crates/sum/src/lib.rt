@@ -2,7 +2,8 @@
 ghost use mathlib.Core.Path.{_≡_};
 ghost use Prim.Native.Nat.{_≤_, _*_};
 ghost use lib.ListN.{length};
-ghost use Rattle.sum.specs.Sum.{sumOf, highFirst, firmwareSum, storedSumOf, starts};
+ghost use Rattle.base.specs.Parts.{sumOf};
+ghost use Rattle.sum.specs.Sum.{highFirst, firmwareSum, storedSumOf, starts};
 use address::FIRST_SUMMED;
 use address::FLASH_CELLS;
 use address::PAST_SUMMED;

@@ -11,20 +11,15 @@ use lib.Seq.{getD-at, getD-append-add}
 use Rattle.base.specs.Parts.{part}
 use Rattle.recipe.specs.Items.{Item, block, row, Recipe}
 use Rattle.recipe.specs.Frames.{leaveFrame, itemFrames, itemsFrames, framesOf, itemCount, itemsCount, frameCount}
-use Rattle.recipe.proofs.Framing.{count-frames, items-append, item-count, block-erases-data, block-writes-data}
+use Rattle.recipe.proofs.Framing.{items-count, items-append, item-count, block-erases-data, block-writes-data}
 use Rattle.update.specs.Mirror.{mirrored, silent, answersOf}
-
-items-many : (m g : ℕ) (is : List Item) → length (itemsFrames m g is) ≡ itemsCount is
-unfolding framesOf frameCount
-items-many m g is =
-    omega (arith, length-append (itemsFrames m g is) (leaveFrame m g ∷ []), count-frames (record { moduleNumber = m; groupNumber = g; items = is }))
 
 module _ (r : Recipe) where
   abbrev most : List (List ℕ)
   most = itemsFrames (r .moduleNumber) (r .groupNumber) (r .items)
 
   many : length (map mirrored most) ≡ itemsCount (r .items)
-  many = length-map most mirrored ∙ items-many (r .moduleNumber) (r .groupNumber) (r .items)
+  many = length-map most mirrored ∙ items-count (r .moduleNumber) (r .groupNumber) (r .items)
 
   -- as many as frames
   pub answers-many : length (answersOf r) ≡ frameCount r
@@ -40,7 +35,7 @@ module _ (r : Recipe) where
   pub answers-mirror : (i : ℕ) → i + 1 < frameCount r → getD (answersOf r) i [] ≡ mirrored (getD (framesOf r) i [])
   unfolding answersOf framesOf frameCount
   answers-mirror i h =
-      let l : i < length most = omega (arith, items-many (r .moduleNumber) (r .groupNumber) (r .items)) in
+      let l : i < length most = omega (arith, items-count (r .moduleNumber) (r .groupNumber) (r .items)) in
       List·getD-append (map mirrored most) (silent ∷ []) [] i (omega (arith, many))
       ∙ within most i l
       ∙ ap mirrored (sym (List·getD-append most (leaveFrame (r .moduleNumber) (r .groupNumber) ∷ []) [] i l))
@@ -62,7 +57,7 @@ module _ (r : Recipe) where
         let g = r .groupNumber in
         let b = itemsFrames m g before in
         let a = itemsFrames m g after in
-        let k : length b ≡ itemsCount before = items-many m g before in
+        let k : length b ≡ itemsCount before = items-count m g before in
         let l : j < length itself = omega (arith, item-count m g i) in
         ap (λ (is : List Item). getD (itemsFrames m g is ++ (leaveFrame m g ∷ [])) (itemsCount before + j) []) e
         ∙ ap (λ (fs : List (List ℕ)). getD (fs ++ (leaveFrame m g ∷ [])) (itemsCount before + j) []) (items-append m g before (i ∷ after))

@@ -10,11 +10,11 @@ use lib.Dec.{eqb, ltb}
 use lib.ListN.{length, take, getD, replicate, length-append}
 use lib.Seq.{take-at}
 use borrow.Author.Tests.{eq-eqb, lt-ltb, le-ltb}
-use Rattle.base.specs.Parts.{listed}
+use Rattle.base.specs.Parts.{listed, sumOf}
 use Rattle.base.proofs.Choice.{true-both}
 use Rattle.base.proofs.Listed.{listed-part}
 use Rattle.address.specs.Places.{full}
-use Rattle.frames.specs.Wrapping.{sumOf, wrappedOf}
+use Rattle.frames.specs.Wrapping.{wrappedOf}
 use Rattle.frames.proofs.Wrapped.{wrapped-length, wrapped-inner, wrapped-right}
 use Rattle.rules.specs.declared.Node.{Node}
 use Rattle.rules.specs.declared.Answer.{Answer}
@@ -23,7 +23,7 @@ use Rattle.rules.specs.Record.{holding, withMode, heldOf, tidyMode, tidied}
 use Rattle.rules.specs.Outcomes.{isDeaf, decided}
 use Rattle.rules.specs.Step.{Step, acted, obeyed, canStep}
 use Rattle.rules.specs.Uart.{UartStep, taken, isClosed, onUart, viaUart, silent, received, uartTidy, uartStep}
-use Rattle.rules.proofs.Tidying.{Holdable, held-held, mode-twice, holding-tidy}
+use Rattle.rules.proofs.Tidying.{Holdable, held-held, tidied-mode, holding-tidy}
 use Rattle.recipe.specs.Items.{Recipe, Legal}
 use Rattle.recipe.specs.Frames.{itemsFrames, framesOf, joined}
 use Rattle.recipe.specs.Plain.{Memories}
@@ -39,10 +39,6 @@ use Rattle.update.proofs.AnswerThree.{answer-three}
 deaf-refuses : (t : Node) (f flash eeprom : List ℕ) → isDeaf (t .mode) ≡ true → obeyed t f flash eeprom ≡ acted t (Refuse 3) f flash eeprom
 unfolding decided
 deaf-refuses t f flash eeprom e = simp e
-
-mode-tidied : (n : Node) → tidyMode (tidied n .mode) ≡ tidied n .mode
-unfolding tidied
-mode-tidied n = mode-twice (n .mode)
 
 pin-tidied : (n : Node) → tidied n .pin ≡ n .pin
 unfolding tidied
@@ -114,7 +110,7 @@ module _ (n : Node) (flash eeprom : List ℕ) (o : OpenPort n flash eeprom) wher
     byte-held : (xs : List ℕ) → Holdable xs → (b : ℕ)
         → uartStep (holding (tidied n) xs) b flash eeprom ≡ received (holding (tidied n) xs) (taken xs b) flash eeprom
     unfolding uartStep
-    byte-held xs h b = ap (λ (m : Node). uartTidy m b flash eeprom) (holding-tidy (tidied n) xs h (mode-tidied n)) ∙ byte-to xs h b
+    byte-held xs h b = ap (λ (m : Node). uartTidy m b flash eeprom) (holding-tidy (tidied n) xs h (tidied-mode n)) ∙ byte-to xs h b
 
     -- "the receiver skips bytes until 0xAA": a frame's first byte is held
     first-byte : uartStep n 0xAA flash eeprom ≡ silent 10 (holding (tidied n) (0xAA ∷ [])) flash eeprom

@@ -1,7 +1,8 @@
 // What wrapping and unwrapping ask of a whole slice.
 ghost use mathlib.Core.Path.{_≡_};
 ghost use Prim.Native.Nat.{_%_};
-ghost use Rattle.frames.specs.Wrapping.{rightlyWrapped, sumOf};
+ghost use Rattle.base.specs.Parts.{sumOf};
+ghost use Rattle.frames.specs.Wrapping.{rightlyWrapped};
 
 // The sum of the bytes, modulo 256.
 pub fn sum_of(bytes: &[u8]) -> u8

@@ -4,8 +4,8 @@ use mathlib.Core.Path.{_≡_, _∙_, refl, ap}
 use Prim.Native.Nat.{_≤_, _*_, _-_}
 use lib.ListN.{length, take}
 use lib.Seq.{take-all}
-use Rattle.sum.specs.Sum.{sumOf}
-use Rattle.sum.proofs.Sums.{sum-more}
+use Rattle.base.specs.Parts.{sumOf}
+use Rattle.base.proofs.Sums.{sum-more}
 use native.Mathlib.Omega.{arith}
 use Rattle.sum.proofs.sum_of.Statement.{statement}
 use Rattle.sum.proofs.sum_of.Tie as tie

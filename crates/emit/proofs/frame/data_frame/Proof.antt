@@ -2,7 +2,7 @@
 -- Assumes nothing.
 use mathlib.Core.Path.{ap}
 use Rattle.recipe.specs.Frames.{dataFrame}
-use Rattle.emit.proofs.Putting.{eight}
+use Rattle.base.proofs.Listed.{listed-all}
 use borrow.Author.Needs.{needs}
 use Rattle.emit.proofs.frame.data_frame.Statement.{statement}
 use Rattle.emit.proofs.frame.data_frame.Tie as tie
@@ -32,7 +32,7 @@ shared-slice-read-t19 : tie.Need-shared-slice-read-t19
 shared-slice-read-t19 c = search needs
 
 returns : tie.Need-returns
-returns c = ap (dataFrame (c .before .before .before .before .before .before .before .before .args .m .0) (c .before .before .before .before .before .before .before .before .args .g .0)) (eight (c .before .before .before .before .before .before .before .before .args .cells .now) (c .before .before .before .before .before .before .before .before .pre))
+returns c = ap (dataFrame (c .before .before .before .before .before .before .before .before .args .m .0) (c .before .before .before .before .before .before .before .before .args .g .0)) (listed-all (c .before .before .before .before .before .before .before .before .args .cells .now) 8 (c .before .before .before .before .before .before .before .before .pre))
 
 pub data-frame-spec : {M : Type 1} → statement M
 data-frame-spec =

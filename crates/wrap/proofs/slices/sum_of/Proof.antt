@@ -1,23 +1,18 @@
 -- `wrap::slices::sum_of` meets its contract: after i turns the sum is that of the first i bytes, modulo 256.
 -- Assumes nothing.
 use mathlib.Core.Path.{_≡_, _∙_, refl}
-use mathlib.Core.List.{List, [], _∷_}
-use Prim.Native.Nat.{ℕ, zero, suc, _+_, _-_, _%_, _≤_, _<_}
-use native.Mathlib.Nat.{not-suc-le-zero, le-of-suc-le-suc, mod-add-mod}
+use mathlib.Core.List.{List}
+use Prim.Native.Nat.{ℕ, _+_, _-_, _%_, _≤_, _<_}
+use native.Mathlib.Nat.{mod-add-mod}
 use native.Mathlib.Numerals.{add-one}
 use native.Mathlib.Omega.{arith}
 use borrow.Author.Needs.{needs}
 use lib.ListN.{length, getD, take}
 use lib.Seq.{take-all}
-use Rattle.frames.specs.Wrapping.{sumOf}
+use Rattle.base.specs.Parts.{sumOf}
+use Rattle.base.proofs.Sums.{sum-next}
 use Rattle.wrap.proofs.slices.sum_of.Statement.{statement}
 use Rattle.wrap.proofs.slices.sum_of.Tie as tie
-
-sum-next : (s : List ℕ) (i : ℕ) → i < length s → sumOf (take (suc i) s) ≡ sumOf (take i s) + getD s i 0
-unfolding sumOf
-sum-next [] i h = absurd (not-suc-le-zero h)
-sum-next (x ∷ s) zero h = omega arith
-sum-next (x ∷ s) (suc i) h = rw (sum-next s i (le-of-suc-le-suc h)) (omega arith)
 
 turn : (s : List ℕ) (i sum : ℕ) → i < length s → sum ≡ sumOf (take i s) % 256
     → (sum + getD s i 0) % 256 ≡ sumOf (take (i + 1) s) % 256
@@ -30,7 +25,6 @@ abbrev μ-loop : tie.MeasureT-loop
 μ-loop bytes sum₀ i₀ sum i = length bytes - i
 
 loop-holds : tie.Need-loop-holds Inv-loop μ-loop
-unfolding sumOf
 loop-holds c = (search needs, refl)
 
 shared-slice-read-wrapping-add-u8 : tie.Need-shared-slice-read-wrapping-add-u8 Inv-loop μ-loop
