@@ -2,9 +2,6 @@
 use Prim.Native.Nat.{ℕ, _%_}
 use mathlib.Core.Bool.{Bool, true, false, _&&_, cond}
 use lib.Dec.{leb, eqb}
-use Rattle.address.specs.declared.FlashAddress.{FlashAddress}
-use Rattle.address.specs.declared.EepromPlace.{EepromPlace}
-use Rattle.address.specs.declared.Address.{Address}
 use Rattle.address.specs.declared.Address.the-variants.{Flash, Eeprom}
 use Rattle.address.specs.declared.Ruled.{Ruled}
 use Rattle.address.specs.declared.Ruled.the-variants.{Legal, Illegal}

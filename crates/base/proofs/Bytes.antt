@@ -1,6 +1,5 @@
 -- A list of bytes: each element below 256. Laws by which lists of bytes are put together.
 -- Assumes nothing.
-use mathlib.Core.Path.{_≡_, refl}
 use mathlib.Core.List.{List, [], _∷_, _++_}
 use Prim.Native.Nat.{ℕ, zero, suc, suc-le-suc, zero-le, _+_, _<_}
 use lib.Dec.{lit<}

@@ -1,7 +1,7 @@
 -- Laws of a choice by a test, and of two tests together. Each test is taken apart once here, and every crate cites these.
 -- Assumes nothing.
 use mathlib.Core.Path.{_≡_, refl}
-use mathlib.Core.Bool.{Bool, true, false, _&&_, _||_, cond, not}
+use mathlib.Core.Bool.{Bool, true, false, _&&_, _||_, cond}
 use mathlib.Core.Logic.{_⊎_, inl, inr}
 
 -- what holds of both values of a choice, each under its test, holds of the choice

@@ -1,13 +1,13 @@
 -- The laws of `patch`, by which a memory is known after a part of it was lent: its length, the cells inside, every cell outside.
 -- Assumes nothing.
-use mathlib.Core.Path.{_≡_, _∙_, refl, sym, ap}
-use mathlib.Core.List.{List, [], _∷_, _++_}
-use mathlib.Core.Logic.{_⊎_, ⊎-elim, inl, inr}
+use mathlib.Core.Path.{_≡_, _∙_, refl, ap}
+use mathlib.Core.List.{List, _++_}
+use mathlib.Core.Logic.{_⊎_, ⊎-elim}
 use Prim.Native.Nat.{ℕ, _+_, _-_, _≤_, _<_}
 use native.Mathlib.Nat.{add-sub-cancel-left, add-assoc}
 use native.Mathlib.Omega.{arith}
 use lib.ListN.{length, getD, take, drop, length-append, length-take, length-drop, List·getD-append}
-use lib.Seq.{drop-drop, getD-append-add, getD-take, getD-drop, length-take-le, take-at, drop-at, ext-getD}
+use lib.Seq.{drop-drop, getD-append-add, getD-take, getD-drop, length-take-le, take-at, drop-at}
 use Rattle.base.specs.Parts.{part, patch}
 
 -- a part that lies within is as long as it says

@@ -1,14 +1,14 @@
 -- The laws of the three functions that take an address, each proved once: a refused one changes nothing, a done one changes no cell
 -- but its own, lengths stay, FLASH below the rim stays, bytes stay bytes. The argument is one, over any patch that fits.
 -- Assumes nothing.
-use mathlib.Core.Path.{_≡_, _∙_, refl, sym, ap}
+use mathlib.Core.Path.{_≡_, _∙_, refl}
 use mathlib.Core.Bool.{true, _&&_}
 use mathlib.Core.List.{List}
 use mathlib.Core.Logic.{_⊎_, ⊎-elim, inl, inr}
 use Prim.Native.Nat.{ℕ, _+_, _-_, _≤_, _<_}
 use native.Mathlib.Omega.{arith}
 use lib.Dec.{eqb, lit<}
-use lib.ListN.{length, getD, replicate, length-replicate}
+use lib.ListN.{length, getD, replicate}
 use borrow.Author.Tests.{eqb-true, eq-eqb}
 use Rattle.base.specs.Parts.{part, patch}
 use Rattle.base.proofs.Choice.{by-cond}

@@ -2,7 +2,6 @@
 -- read off the definition.
 -- Assumes nothing.
 use mathlib.Core.Path.{_≡_, refl}
-use Prim.Native.Nat.{ℕ}
 use lib.ListN.{getD, take, drop}
 use Rattle.rules.specs.declared.Answer.{Answer}
 use Rattle.deliver.specs.Delivery.{told}

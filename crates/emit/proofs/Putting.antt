@@ -1,12 +1,12 @@
 -- Frames put into an output one behind the other.
 -- Assumes nothing.
 use mathlib.Core.Path.{_≡_, refl, sym, ap, ap₂, _∙_}
-use mathlib.Core.List.{List, [], _∷_, _++_, append-nil, append-assoc}
-use Prim.Native.Nat.{ℕ, zero, suc, _+_, _-_, _≤_}
+use mathlib.Core.List.{List, [], _++_, append-nil, append-assoc}
+use Prim.Native.Nat.{ℕ, zero, _+_, _-_, _≤_}
 use native.Mathlib.Omega.{arith}
 use native.Mathlib.Nat.{add-zero}
-use lib.ListN.{length, take, drop, getD, length-append, length-take, drop-of-length-le, take-append-drop}
-use lib.Seq.{drop-append-add, take-all, drop-cons, drop-drop, take-at}
+use lib.ListN.{length, take, drop, length-append, length-take, take-append-drop}
+use lib.Seq.{drop-append-add, drop-drop, take-at}
 use Rattle.base.specs.Parts.{patch}
 use Rattle.base.proofs.Patched.{length-patch}
 

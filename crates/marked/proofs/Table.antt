@@ -4,7 +4,6 @@ use mathlib.Core.Path.{_≡_, refl}
 use mathlib.Core.Bool.{true}
 use Rattle.address.specs.Rule.{ruled}
 use Rattle.frames.specs.Frame.{identifierOf, headOf}
-use Rattle.base.specs.Parts.{sumOf}
 use Rattle.frames.specs.Wrapping.{wrappedOf, rightlyWrapped}
 use Rattle.cells.specs.Leaves.{flashCellsAfter}
 use Rattle.sum.specs.Sum.{firmwareSum, storedSumOf, starts}

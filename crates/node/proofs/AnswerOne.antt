@@ -11,7 +11,6 @@ use borrow.Fn.World.{ArgsD, ResD}
 use denote.Triple.Clauses.{AtExit}
 use borrow.Fn.Kinds.{endedOf}
 use Rattle.rules.specs.declared.Mode.the-variants.{Normal}
-use Rattle.rules.specs.declared.Node.{Node}
 use Rattle.rules.specs.Record.{tidied}
 use Rattle.rules.specs.Outcomes.{firstThat}
 use Rattle.rules.specs.Replies.{quiet}

@@ -1,7 +1,7 @@
 -- The UART rule on the record's own fields is the rule of document 01 wherever the record is tidy: one byte more in the room behind
 -- those that are held is what `taken` says, and the fifteenth completes a frame.
 -- Assumes nothing.
-use mathlib.Core.Path.{_≡_, _∙_, refl, sym, ap, ap₂}
+use mathlib.Core.Path.{_≡_, _∙_, refl, sym, ap}
 use mathlib.Core.Bool.{Bool, true, false, cond, not}
 use mathlib.Core.List.{List, [], _∷_, _++_, append-assoc}
 use Prim.Native.Nat.{ℕ, zero, suc, _+_, _-_, _≤_, _<_}
@@ -18,7 +18,7 @@ use Rattle.rules.specs.declared.Node.{Node}
 use Rattle.rules.specs.Record.{padded, holding, withMode, heldOf, tidyMode, tidied}
 use Rattle.rules.specs.Outcomes.{isDeaf}
 use Rattle.rules.specs.Step.{obeyed}
-use Rattle.rules.specs.Uart.{UartStep, silent, viaUart, taken, incomplete, afterBad, received, isClosed, uartStep}
+use Rattle.rules.specs.Uart.{UartStep, silent, viaUart, taken, afterBad, received, isClosed, uartStep}
 use Rattle.rules.proofs.Tidying.{Holdable, held-holdable, holdable-few, tidy-held}
 use Rattle.node.specs.Listening.{heldWith, fifteen, took, wholeFrame, listened}
 

@@ -1,7 +1,7 @@
 -- Whom a frame is for, in document 01's words: what `isFor` says is what the sentence says, so that no frame with other numbers counts.
 -- Assumes nothing.
-use mathlib.Core.Path.{_≡_, refl}
-use mathlib.Core.Bool.{Bool, true, _&&_, _||_}
+use mathlib.Core.Path.{_≡_}
+use mathlib.Core.Bool.{true, _&&_, _||_}
 use mathlib.Core.List.{List}
 use mathlib.Core.Logic.{_⊎_, ⊎-elim, inl, inr}
 use Prim.Native.Nat.{ℕ}

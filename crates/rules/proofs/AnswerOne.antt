@@ -2,36 +2,30 @@
 -- both memories, FLASH below the rim stays, and so do the lengths. crates/node ties each of these to the calls' contracts.
 -- Assumes nothing.
 use mathlib.Core.Path.{_≡_, _∙_, refl, sym, ap}
-use mathlib.Core.Bool.{Bool, true, false, not, cond, false≢true}
+use mathlib.Core.Bool.{Bool, true, false, not, cond}
 use mathlib.Core.List.{List, [], _∷_}
-use Prim.Native.Nat.{ℕ, zero, suc, _≤_, _<_}
-use native.Mathlib.Nat.{suc-ne-zero}
+use Prim.Native.Nat.{ℕ, _≤_}
 use native.Mathlib.Omega.{arith}
 use lib.Dec.{eqb, ltb}
-use lib.ListN.{length, getD, set, length-set}
-use lib.Seq.{getD-set-other}
 use mathlib.Core.Logic.{_⊎_, ⊎-elim, inl, inr}
-use borrow.Author.Tests.{eqb-true, le-ltb, ne-eqb}
+use borrow.Author.Tests.{le-ltb, ne-eqb}
 use Rattle.address.specs.Places.{full}
 use Rattle.address.specs.declared.Address.{Address}
-use Rattle.address.specs.declared.Address.the-variants.{Flash, Eeprom}
-use Rattle.cells.proofs.Laws.{written-length, written-below-rim, erased-length, erased-below-rim, eeprom-written-length}
 use Rattle.frames.specs.Wrapping.{innerOf, rightlyWrapped}
 use Rattle.rules.specs.declared.Addressing.{Addressing}
 use Rattle.rules.specs.declared.Addressing.the-variants.{AsGroup, AsNode, AllZero, OwnNumbers}
 use Rattle.rules.specs.declared.Found.{Found}
 use Rattle.rules.specs.declared.Found.the-variants.{Handled, Unhandled}
 use Rattle.rules.specs.declared.Node.{Node}
-use Rattle.rules.specs.declared.Action.{Action}
-use Rattle.rules.specs.declared.Action.the-variants.{Refuse, Unstage, Enter, Wait, Hardware, Firmware, Describe, Device, Leave, Stage, Show, Put, Clear}
+use Rattle.rules.specs.declared.Action.the-variants.{Stage}
 use Rattle.rules.specs.Record.{holding, heldOf, tidied}
 use Rattle.rules.specs.Outcomes.{row, firstThat, isDeaf, misshapen, isResponse, typeRows, frameRows, decided}
 use Rattle.rules.specs.Replies.{quiet}
-use Rattle.rules.specs.Requests.{dataIn, isFor, handledHere, illegalAddress, nothingStaged}
+use Rattle.rules.specs.Requests.{isFor, handledHere, illegalAddress, nothingStaged}
 use Rattle.rules.specs.Table.{found}
 use Rattle.frames.specs.Frame.{typeOf}
-use Rattle.rules.specs.Step.{Step, after, flashAfter, eepromAfter, acted, obeyed, canStep, canRows}
-use Rattle.rules.specs.Uart.{UartStep, silent, viaUart, taken, incomplete, afterBad, isClosed, received, uartTidy, uartStep, byteRows, uartRows}
+use Rattle.rules.specs.Step.{Step, after, acted, obeyed, canStep, canRows}
+use Rattle.rules.specs.Uart.{silent, viaUart, taken, incomplete, afterBad, isClosed, uartStep, uartRows}
 use Rattle.rules.specs.Refused.{refusedOnCan, refusedOnUart}
 use Rattle.rules.proofs.Numbers.{acted-number, decided-number, obeyed-refused}
 

@@ -30,7 +30,7 @@ use Rattle.rules.specs.declared.Action.the-variants.{Refuse, Unstage, En
 use Rattle.rules.specs.Record.{holding, withMode, heldOf, tidied}
 use Rattle.rules.specs.Table.{handledTypes, lookIn, found}
 use Rattle.rules.specs.Requests.{D, areOwn, isFor, isNormal, isProgramming, handledHere, asked, illegalAddress, nothingStaged}
-use Rattle.rules.specs.Outcomes.{row, firstThat, isDeaf, misshapen, isResponse, typeRows, frameRows, askedBy, judged, refusal, decided}
+use Rattle.rules.specs.Outcomes.{row, firstThat, isDeaf, misshapen, isResponse, typeRows, askedBy, judged, decided}
 use Rattle.rules.specs.Replies.{quiet}
 use Rattle.rules.specs.Uart.{UartStep, silent, viaUart, taken, incomplete, afterBad, isClosed, uartStep}
 use Rattle.rules.specs.Step.{Step, after, bootflSet, acted, obeyed, canStep}

@@ -4,21 +4,18 @@
 use mathlib.Core.Path.{_≡_, _∙_, refl, sym, ap}
 use mathlib.Core.Bool.{Bool, true, false, not, cond, false≢true}
 use mathlib.Core.List.{List, [], _∷_}
-use Prim.Native.Nat.{ℕ, zero, suc, _≤_, _<_}
+use Prim.Native.Nat.{ℕ, zero, suc}
 use native.Mathlib.Nat.{suc-ne-zero}
-use native.Mathlib.Omega.{arith}
-use lib.Dec.{eqb, ltb}
-use borrow.Author.Tests.{eq-eqb, ne-eqb, eqb-true, eqb-false, lt-ltb, le-ltb}
-use Rattle.address.specs.Places.{full}
+use lib.Dec.{eqb}
+use borrow.Author.Tests.{ne-eqb, eqb-true}
 use Rattle.address.specs.Rule.{isLegal}
 use Rattle.address.specs.declared.Ruled.{Ruled}
 use Rattle.address.specs.declared.Ruled.the-variants.{Legal, Illegal}
 use Rattle.frames.specs.Frame.{typeOf}
-use Rattle.frames.specs.Wrapping.{innerOf, rightlyWrapped}
 use Rattle.rules.specs.declared.Staged.{Staged}
 use Rattle.rules.specs.declared.Staged.the-variants.{Nothing, Read, Write, Erase}
 use Rattle.rules.specs.declared.Mode.{Mode}
-use Rattle.rules.specs.declared.Mode.the-variants.{Normal, Programming, Error, Waiting}
+use Rattle.rules.specs.declared.Mode.the-variants.{Programming}
 use Rattle.rules.specs.declared.Request.{Request}
 use Rattle.rules.specs.declared.Request.the-variants.{EnterProgramming, WaitForRestart, HardwareType, FirmwareType, Description, DeviceId, LeaveProgramming, AddressFrame, DataFrame}
 use Rattle.rules.specs.declared.Found.{Found}
@@ -26,14 +23,13 @@ use Rattle.rules.specs.declared.Found.the-variants.{Handled, Unhandled}
 use Rattle.rules.specs.declared.Node.{Node}
 use Rattle.rules.specs.declared.Action.{Action}
 use Rattle.rules.specs.declared.Action.the-variants.{Refuse, Unstage, Enter, Wait, Hardware, Firmware, Describe, Device, Leave, Stage, Show, Put, Clear}
-use Rattle.rules.specs.Record.{holding, withMode, heldOf, tidied}
+use Rattle.rules.specs.Record.{withMode}
 use Rattle.rules.specs.Table.{found}
 use Rattle.rules.specs.Requests.{D, ruledIn, handledHere, isFor, staging, doing, stagedIn, isNothing, asked, illegalAddress, nothingStaged}
 use Rattle.rules.specs.Outcomes.{Row, row, firstThat, isDeaf, misshapen, isResponse, typeRows, frameRows, askedBy, refusal, judged, decided}
 use Rattle.rules.specs.Replies.{quiet}
-use Rattle.rules.specs.Step.{Step, after, acted, obeyed, canStep, canRows}
-use Rattle.rules.specs.Uart.{UartStep, silent, viaUart, taken, incomplete, afterBad, isClosed, received, uartTidy, uartStep, byteRows, uartRows}
-use Rattle.rules.specs.Refused.{refusedOnCan, refusedOnUart}
+use Rattle.rules.specs.Step.{after, acted, obeyed}
+use Rattle.rules.specs.Refused.{refusedOnCan}
 
 -- the number that an action comes to
 abbrev pub numberIn : Action → ℕ

@@ -12,7 +12,7 @@ use lib.Dec.{eqb}
 use lib.ListN.{length, getD, set, replicate}
 use borrow.Author.Tests.{eq-eqb}
 use Rattle.base.specs.Parts.{patch, listed}
-use Rattle.base.proofs.Choice.{by-cond, true-both}
+use Rattle.base.proofs.Choice.{true-both}
 use Rattle.address.specs.Rule.{ruled, inFlash, inEeprom, isFlash, isEeprom, legalFlash, legalEeprom}
 use Rattle.address.specs.declared.Address.the-variants.{Flash, Eeprom}
 use Rattle.address.specs.declared.Ruled.{Ruled}
@@ -27,11 +27,11 @@ use Rattle.rules.specs.declared.Request.the-variants.{LeaveProgramming, 
 use Rattle.rules.specs.declared.Staged.{Staged}
 use Rattle.rules.specs.declared.Staged.the-variants.{Nothing, Read, Write, Erase}
 use Rattle.rules.specs.declared.Mode.{Mode}
-use Rattle.rules.specs.declared.Mode.the-variants.{Normal, Programming, Error, Waiting}
+use Rattle.rules.specs.declared.Mode.the-variants.{Programming, Waiting}
 use Rattle.rules.specs.declared.Node.{Node}
 use Rattle.rules.specs.declared.Kind.{Kind}
 use Rattle.rules.specs.declared.Found.the-variants.{Handled}
-use Rattle.rules.specs.Record.{withMode, legalStaged, tidyMode, tidyStaged, tidied}
+use Rattle.rules.specs.Record.{withMode, tidied}
 use Rattle.rules.specs.Requests.{isProgramming, isFor, staging, doing, asked}
 use Rattle.rules.specs.Outcomes.{misshapen, isResponse}
 use Rattle.rules.specs.Table.{kind, found, handledTypes}

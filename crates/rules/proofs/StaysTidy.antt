@@ -3,12 +3,12 @@
 -- Assumes nothing.
 use mathlib.Core.Path.{_≡_, _∙_, refl, sym, ap, subst}
 use mathlib.Core.Bool.{Bool, true, false, cond, false≢true}
-use mathlib.Core.List.{List, [], _∷_, _++_}
+use mathlib.Core.List.{List, [], _∷_}
 use mathlib.Core.Logic.{_⊎_, inl, inr}
-use Prim.Native.Nat.{ℕ, _≤_, _<_}
+use Prim.Native.Nat.{ℕ}
 use native.Mathlib.Omega.{arith}
 use lib.Dec.{eqb, ltb}
-use lib.ListN.{length, length-append, getD}
+use lib.ListN.{length, getD}
 use borrow.Author.Tests.{eqb-true, ltb-true}
 use Rattle.base.proofs.Choice.{by-cond}
 use Rattle.address.specs.Places.{full}
@@ -38,7 +38,7 @@ use Rattle.rules.specs.declared.Action.the-variants.{Refuse, Unstage, En
 use Rattle.rules.specs.Record.{holding, withMode, heldOf, legalStaged, tidyMode, tidied, freshNode}
 use Rattle.rules.specs.Table.{found}
 use Rattle.rules.specs.Requests.{D, addressIn, commandAt, staging, doing, stagedIn, asked}
-use Rattle.rules.specs.Outcomes.{firstThat, isDeaf, frameRows, askedBy, judged, refusal, decided}
+use Rattle.rules.specs.Outcomes.{firstThat, isDeaf, frameRows, askedBy, refusal, decided}
 use Rattle.rules.specs.Replies.{quiet}
 use Rattle.rules.specs.Step.{Step, after, acted, obeyed, canStep}
 use Rattle.rules.specs.Restart.{modeAfter, nodeAfter, restartStep}

@@ -1,13 +1,13 @@
 -- Tidying: at most 14 bytes are held, tidying twice is tidying once, and a tidied record holds what it held.
 -- Assumes nothing.
-use mathlib.Core.Path.{_≡_, _∙_, refl, sym, ap}
-use mathlib.Core.Bool.{Bool, true, false, _&&_, cond}
-use mathlib.Core.List.{List, [], _∷_, _++_}
-use Prim.Native.Nat.{ℕ, zero, suc, _+_, _-_, _≤_, _<_}
+use mathlib.Core.Path.{_≡_, refl, ap}
+use mathlib.Core.Bool.{Bool, true, false, cond}
+use mathlib.Core.List.{List, [], _∷_}
+use Prim.Native.Nat.{ℕ, zero, suc, _-_, _≤_}
 use native.Mathlib.Omega.{arith}
 use lib.Dec.{leb, eqb}
-use lib.ListN.{length, getD, take, replicate, length-take, length-append, length-replicate}
-use lib.Seq.{take-at, take-nil}
+use lib.ListN.{length, getD, take, replicate, length-take}
+use lib.Seq.{take-at}
 use borrow.Author.Tests.{leb-true, le-leb, eqb-true, eq-eqb}
 use Rattle.base.proofs.Choice.{by-cond, both-true}
 use Rattle.rules.specs.declared.Staged.{Staged}
@@ -15,7 +15,7 @@ use Rattle.rules.specs.declared.Staged.the-variants.{Nothing}
 use Rattle.rules.specs.declared.Mode.{Mode}
 use Rattle.rules.specs.declared.Mode.the-variants.{Normal, Programming, Error, Waiting}
 use Rattle.rules.specs.declared.Node.{Node}
-use Rattle.rules.specs.Record.{padded, holding, withMode, mayHold, heldOf, legalStaged, tidyStaged, tidyMode, tidied}
+use Rattle.rules.specs.Record.{holding, withMode, mayHold, heldOf, legalStaged, tidyStaged, tidyMode, tidied}
 
 -- bytes that may be held: none, or at most 14 that start with 0xAA
 abbrev pub Holdable : List ℕ → Type 0

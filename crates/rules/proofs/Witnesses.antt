@@ -14,7 +14,6 @@ use Rattle.rules.specs.declared.Staged.the-variants.{Nothing, Read, Writ
 use Rattle.rules.specs.declared.Mode.{Mode}
 use Rattle.rules.specs.declared.Mode.the-variants.{Normal, Programming, Error}
 use Rattle.rules.specs.declared.Node.{Node}
-use Rattle.base.specs.Parts.{sumOf}
 use Rattle.frames.specs.Wrapping.{wrappedOf}
 use Rattle.rules.specs.declared.HandledIn.the-variants.{InNormal, InProgramming}
 use Rattle.rules.specs.declared.Addressing.the-variants.{AsGroup, AsNode, AllZero, OwnNumbers}

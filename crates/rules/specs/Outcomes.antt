@@ -7,7 +7,6 @@ use lib.ListN.{length}
 use Rattle.frames.specs.Frame.{typeOf, flagOf, upperFlags}
 use Rattle.rules.specs.declared.Mode.{Mode}
 use Rattle.rules.specs.declared.Mode.the-variants.{Normal, Programming, Error, Waiting}
-use Rattle.rules.specs.declared.Kind.{Kind}
 use Rattle.rules.specs.declared.Found.{Found}
 use Rattle.rules.specs.declared.Found.the-variants.{Handled, Unhandled}
 use Rattle.rules.specs.declared.Node.{Node}

@@ -1,13 +1,12 @@
 -- The node's record (document 01, "Node and modes"): what is held, what is legal to be staged, and the tidied record.
 use Prim.Native.Nat.{ℕ, _-_}
-use mathlib.Core.Bool.{Bool, true, false, _&&_, cond}
+use mathlib.Core.Bool.{Bool, true, _&&_, cond}
 use mathlib.Core.List.{List, [], _++_}
 use lib.Dec.{leb, eqb}
 use lib.ListN.{length, getD, take, replicate}
 use Rattle.address.specs.Rule.{legalFlash, legalEeprom}
 use Rattle.address.specs.declared.Address.{Address}
 use Rattle.address.specs.declared.Address.the-variants.{Flash, Eeprom}
-use Rattle.rules.specs.declared.Pin.{Pin}
 use Rattle.rules.specs.declared.Pin.the-variants.{CanOnly}
 use Rattle.rules.specs.declared.Staged.{Staged}
 use Rattle.rules.specs.declared.Staged.the-variants.{Nothing, Read, Write, Erase}

@@ -1,6 +1,6 @@
 -- What a CAN frame does to a node and its memories (document 01, "Requests and replies").
 use Prim.Native.Nat.{ℕ}
-use mathlib.Core.Bool.{Bool, true, not, cond}
+use mathlib.Core.Bool.{not, cond}
 use mathlib.Core.List.{List, _∷_}
 use lib.ListN.{set}
 use Rattle.address.specs.Places.{full, eepromCell, bootfl}

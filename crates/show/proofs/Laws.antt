@@ -1,9 +1,9 @@
 -- The laws of a shown row: eight cells where the number is 0, none where it isn't; and of which memory.
 -- Assumes nothing.
-use mathlib.Core.Path.{_≡_, _∙_, refl, sym, ap}
-use mathlib.Core.Bool.{Bool, true, false, cond, _&&_}
+use mathlib.Core.Path.{_≡_, refl}
+use mathlib.Core.Bool.{Bool, true, false, cond}
 use mathlib.Core.List.{List, []}
-use Prim.Native.Nat.{ℕ, _+_, _≤_}
+use Prim.Native.Nat.{ℕ}
 use native.Mathlib.Nat.{suc-ne-zero}
 use native.Mathlib.Omega.{arith}
 use lib.Dec.{eqb}
@@ -13,7 +13,7 @@ use Rattle.base.specs.Parts.{part}
 use Rattle.base.proofs.Choice.{both-true}
 use Rattle.base.proofs.Patched.{part-length}
 use Rattle.address.specs.Places.{full, eepromCell}
-use Rattle.address.specs.Rule.{ruled, inFlash, inEeprom, isLegal, legalFlash, legalEeprom, numbered}
+use Rattle.address.specs.Rule.{ruled, isLegal, legalFlash, legalEeprom, numbered}
 use Rattle.address.specs.declared.Address.the-variants.{Flash, Eeprom}
 use Rattle.address.specs.declared.Ruled.{Ruled}
 use Rattle.address.specs.declared.Ruled.the-variants.{Legal, Illegal}

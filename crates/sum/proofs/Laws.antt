@@ -1,14 +1,14 @@
 -- The laws of the sums: the firmware sum never passes 24 bits; a blank FLASH's sums; when firmware starts, both ways.
 -- Assumes nothing.
-use mathlib.Core.Path.{_≡_, refl, sym, _∙_}
+use mathlib.Core.Path.{_≡_, refl}
 use mathlib.Core.Bool.{Bool, true, false, cond, false≢true}
 use mathlib.Core.List.{List}
-use Prim.Native.Nat.{ℕ, _*_, _≤_}
+use Prim.Native.Nat.{ℕ, _≤_}
 use native.Mathlib.Omega.{arith}
 use lib.Dec.{eqb}
 use lib.ListN.{length, replicate}
 use borrow.Author.Tests.{eqb-true, eq-eqb}
-use Rattle.base.specs.Parts.{part, sumOf}
+use Rattle.base.specs.Parts.{part}
 use Rattle.base.proofs.Bytes.{Bytes, bytes-part}
 use Rattle.base.proofs.Choice.{by-cond}
 use Rattle.base.proofs.Patched.{part-length}

@@ -1,7 +1,5 @@
 -- `ask::stage` meets its contract: the rule's answer says whether the command is staged.
 -- Assumes nothing.
-use mathlib.Core.Path.{ap}
-use Rattle.rules.specs.declared.Action.the-variants.{Stage}
 use borrow.Author.Needs.{needs}
 use Rattle.ask.proofs.stage.Statement.{statement}
 use Rattle.ask.proofs.stage.Tie as tie

@@ -3,7 +3,7 @@
 use mathlib.Core.Path.{_≡_, _∙_, refl, sym}
 use Prim.Native.Nat.{_≤_, _-_}
 use borrow.Author.Tests.{eq-eqb, ne-eqb}
-use lib.ListN.{length, replicate, length-replicate, getD-replicate, length-set}
+use lib.ListN.{length, replicate, getD-replicate, length-set}
 use Rattle.base.proofs.Stored.{mix, stored, mix-all}
 use Rattle.cells.specs.Leaves.{erasedCells}
 use native.Mathlib.Omega.{arith}

@@ -1,7 +1,7 @@
 -- `cells::write_flash_cells` meets its contract: after i turns the first i cells are combined and the rest as they were.
 -- Assumes nothing.
 use mathlib.Core.Path.{_≡_, _∙_, refl, sym, ap}
-use Prim.Native.Nat.{ℕ, _≤_, _<_, _-_}
+use Prim.Native.Nat.{ℕ, _≤_, _-_}
 use borrow.Author.Tests.{eq-eqb, ne-eqb}
 use lib.Bits.{bitAnd}
 use lib.ListN.{length, length-set, getD}

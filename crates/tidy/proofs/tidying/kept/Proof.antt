@@ -1,7 +1,6 @@
 -- `tidy::tidying::kept` meets its contract: before byte i is set, those from `count` to i are 0 and the rest as they were.
 -- Assumes nothing.
 use mathlib.Core.Path.{_≡_, _∙_, ap}
-use mathlib.Core.List.{List}
 use Prim.Native.Nat.{ℕ, _≤_, _-_}
 use borrow.Author.Needs.{needs}
 use native.Mathlib.Omega.{arith}
