@@ -5,12 +5,12 @@ use mathlib.Core.Path.{_≡_, refl}
 use mathlib.Core.Bool.{true}
 use mathlib.Core.List.{[]}
 use lib.ListN.{replicate}
-use Rattle.rules.specs.declared.Pin.the-variants.{CanOnly}
-use Rattle.rules.specs.declared.Staged.the-variants.{Nothing}
-use Rattle.rules.specs.declared.Mode.the-variants.{Programming}
-use Rattle.rules.specs.declared.Restarted.{Restarted}
-use Rattle.rules.specs.Record.{padded, freshNode}
-use Rattle.rules.specs.Restart.{restartStep}
+use Rattle.node_rules.specs.declared.Pin.the-variants.{CanOnly}
+use Rattle.node_rules.specs.declared.Staged.the-variants.{Nothing}
+use Rattle.node_rules.specs.declared.Mode.the-variants.{Programming}
+use Rattle.node_rules.specs.declared.Restarted.{Restarted}
+use Rattle.node_rules.specs.Record.{padded, freshNode}
+use Rattle.node_rules.specs.Restart.{restartStep}
 
 -- the blank node, as the program makes it
 abbrev pub blankNode : Restarted

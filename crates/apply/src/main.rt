@@ -7,13 +7,13 @@ mod output;
 ghost use mathlib.Core.Path.{_≡_};
 ghost use mathlib.Core.Bool.{true};
 ghost use lib.ListN.{replicate};
-ghost use Rattle.rules.specs.declared.Pin.the-variants.{CanOnly};
-ghost use Rattle.rules.specs.Record.{freshNode};
-ghost use Rattle.rules.specs.Restart.{restartStep};
+ghost use Rattle.node_rules.specs.declared.Pin.the-variants.{CanOnly};
+ghost use Rattle.node_rules.specs.Record.{freshNode};
+ghost use Rattle.node_rules.specs.Restart.{restartStep};
 use input::Input;
 use recipe::Translated;
-use rules::Node;
-use rules::Pin;
+use node_rules::Node;
+use node_rules::Pin;
 
 // The longest recipe that is applied, in bytes.
 const MOST: usize = 4096;
@@ -44,7 +44,7 @@ fn apply(recipe: &[u8]) {
     let blank = restarted(&flash, &eeprom);
     let mut frames = [0u8; FRAMES];
     let mut answers = [0u8; ANSWERS];
-    let delivered = deliver::deliver(
+    let delivered = update_deliver::deliver(
         recipe,
         blank,
         &mut flash,

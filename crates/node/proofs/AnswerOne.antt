@@ -1,5 +1,5 @@
 -- Answer one over the calls' real contracts: the generated `Reads.Post` of each call, for any record, any bytes and lent memories of any
--- length and content. Each theorem is the law of crates/rules at what the contract's equation says.
+-- length and content. Each theorem is the law of crates/node_rules at what the contract's equation says.
 -- Assumes nothing.
 use mathlib.Core.Path.{_≡_, _∙_, refl, sym, ap, subst}
 use mathlib.Core.Bool.{Bool}
@@ -10,15 +10,15 @@ use contract.Lifetimes.{Lfts}
 use borrow.Fn.World.{ArgsD, ResD}
 use denote.Triple.Clauses.{AtExit}
 use borrow.Fn.Kinds.{endedOf}
-use Rattle.rules.specs.declared.Mode.the-variants.{Normal}
-use Rattle.rules.specs.Record.{tidied}
-use Rattle.rules.specs.Outcomes.{firstThat}
-use Rattle.rules.specs.Replies.{quiet}
-use Rattle.rules.specs.Step.{Step, canRows}
-use Rattle.rules.specs.Uart.{UartStep, silentAnswer, uartRows}
-use Rattle.rules.specs.Refused.{refusedOnCan, refusedOnUart}
-use Rattle.rules.proofs.AnswerOne.{can-number, uart-number, can-refused, uart-refused}
-use Rattle.rules.proofs.Spoiling.{ButBootfl, can-below-rim, uart-below-rim, can-lengths, uart-lengths, can-normal-spares, uart-normal-spares}
+use Rattle.node_rules.specs.declared.Mode.the-variants.{Normal}
+use Rattle.node_rules.specs.Record.{tidied}
+use Rattle.node_rules.specs.Outcomes.{firstThat}
+use Rattle.node_rules.specs.Replies.{quiet}
+use Rattle.node_rules.specs.Step.{Step, canRows}
+use Rattle.node_rules.specs.Uart.{UartStep, silentAnswer, uartRows}
+use Rattle.node_rules.specs.Refused.{refusedOnCan, refusedOnUart}
+use Rattle.node_rules.proofs.AnswerOne.{can-number, uart-number, can-refused, uart-refused}
+use Rattle.node_rules.proofs.Spoiling.{ButBootfl, can-below-rim, uart-below-rim, can-lengths, uart-lengths, can-normal-spares, uart-normal-spares}
 use Rattle.node.proofs.restart.{signature as restart-signature}
 use Rattle.node.proofs.restart.Kinds as restart-kinds
 use Rattle.node.proofs.restart.Reads as restart-reads

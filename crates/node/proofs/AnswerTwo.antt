@@ -1,4 +1,4 @@
--- Answer two over the calls' real contracts: what the rules say of a frame, a byte or a restart (crates/rules/proofs: Rows,
+-- Answer two over the calls' real contracts: what the rules say of a frame, a byte or a restart (crates/node_rules/proofs: Rows,
 -- ProgrammingRows, Pairs, Restarting, Modes, Agreement) is what the call leaves, and all of it. Each contract is one equation with the
 -- rules' step, so a law of the step is a law of the call. The contracts are the generated `Reads`: nothing is said of a body.
 -- Assumes nothing.
@@ -11,22 +11,22 @@ use contract.Lifetimes.{Lfts}
 use borrow.Fn.World.{ArgsD, ResD}
 use denote.Triple.Clauses.{AtExit}
 use borrow.Fn.Kinds.{endedOf}
-use Rattle.frames.specs.Frame.{typeOf}
+use Rattle.frame_can.specs.Frame.{typeOf}
 use Rattle.base.specs.Parts.{sumOf}
-use Rattle.frames.specs.Wrapping.{wrappedOf, innerOf}
-use Rattle.rules.specs.declared.Pin.the-variants.{CanAndUart}
-use Rattle.rules.specs.declared.Mode.the-variants.{Normal}
-use Rattle.rules.specs.declared.Node.{Node}
-use Rattle.rules.specs.declared.Restarted.{Restarted}
-use Rattle.rules.specs.Record.{heldOf, tidied}
-use Rattle.rules.specs.Requests.{isProgramming}
-use Rattle.rules.specs.Outcomes.{isDeaf}
-use Rattle.rules.specs.Restart.{restartStep}
-use Rattle.rules.specs.Step.{Step, after, canStep}
-use Rattle.rules.specs.Uart.{UartStep, uartAfter, viaUart, taken, uartStep}
-use Rattle.rules.proofs.Restarting.{SumsAgree, marked-if, marked-only-if}
-use Rattle.rules.proofs.Modes.{can-deaf, can-normal, can-programming, uart-deaf, uart-normal, uart-programming}
-use Rattle.rules.proofs.Agreement.{bytesIn, quietly, agreement}
+use Rattle.frame_can.specs.Wrapping.{wrappedOf, innerOf}
+use Rattle.node_rules.specs.declared.Pin.the-variants.{CanAndUart}
+use Rattle.node_rules.specs.declared.Mode.the-variants.{Normal}
+use Rattle.node_rules.specs.declared.Node.{Node}
+use Rattle.node_rules.specs.declared.Restarted.{Restarted}
+use Rattle.node_rules.specs.Record.{heldOf, tidied}
+use Rattle.node_rules.specs.Requests.{isProgramming}
+use Rattle.node_rules.specs.Outcomes.{isDeaf}
+use Rattle.node_rules.specs.Restart.{restartStep}
+use Rattle.node_rules.specs.Step.{Step, after, canStep}
+use Rattle.node_rules.specs.Uart.{UartStep, uartAfter, viaUart, taken, uartStep}
+use Rattle.node_rules.proofs.Restarting.{SumsAgree, marked-if, marked-only-if}
+use Rattle.node_rules.proofs.Modes.{can-deaf, can-normal, can-programming, uart-deaf, uart-normal, uart-programming}
+use Rattle.node_rules.proofs.Agreement.{bytesIn, quietly, agreement}
 use Rattle.node.proofs.restart.{signature as restart-signature}
 use Rattle.node.proofs.restart.Kinds as restart-kinds
 use Rattle.node.proofs.restart.Reads as restart-reads

@@ -1,4 +1,4 @@
--- Over the calls' real contracts: what a call returns is tidy, and what a frame for others can do. Each is the law of crates/rules at what the
+-- Over the calls' real contracts: what a call returns is tidy, and what a frame for others can do. Each is the law of crates/node_rules at what the
 -- contract's equation says.
 -- Assumes nothing.
 use mathlib.Core.Path.{_≡_, sym, subst}
@@ -7,16 +7,16 @@ use contract.Lifetimes.{Lfts}
 use borrow.Fn.World.{ArgsD, ResD}
 use denote.Triple.Clauses.{AtExit}
 use borrow.Fn.Kinds.{endedOf}
-use Rattle.frames.specs.Frame.{moduleOf, groupOf}
-use Rattle.frames.specs.Wrapping.{innerOf}
-use Rattle.rules.specs.declared.Restarted.{Restarted}
-use Rattle.rules.specs.declared.Node.{Node}
-use Rattle.rules.specs.Record.{heldOf, tidied}
-use Rattle.rules.specs.Requests.{D, areOwn}
-use Rattle.rules.specs.Step.{Step, after}
-use Rattle.rules.specs.Uart.{UartStep, uartAfter, taken}
-use Rattle.rules.proofs.StaysTidy.{can-tidy, uart-tidy, restart-tidy, fresh-tidy}
-use Rattle.rules.proofs.Foreign.{Little, LittleOnUart, can-foreign, uart-foreign}
+use Rattle.frame_can.specs.Frame.{moduleOf, groupOf}
+use Rattle.frame_can.specs.Wrapping.{innerOf}
+use Rattle.node_rules.specs.declared.Restarted.{Restarted}
+use Rattle.node_rules.specs.declared.Node.{Node}
+use Rattle.node_rules.specs.Record.{heldOf, tidied}
+use Rattle.node_rules.specs.Requests.{D, areOwn}
+use Rattle.node_rules.specs.Step.{Step, after}
+use Rattle.node_rules.specs.Uart.{UartStep, uartAfter, taken}
+use Rattle.node_rules.proofs.StaysTidy.{can-tidy, uart-tidy, restart-tidy, fresh-tidy}
+use Rattle.node_rules.proofs.Foreign.{Little, LittleOnUart, can-foreign, uart-foreign}
 use Rattle.node.proofs.fresh.{signature as fresh-signature}
 use Rattle.node.proofs.fresh.Kinds as fresh-kinds
 use Rattle.node.proofs.fresh.Reads as fresh-reads

@@ -11,15 +11,15 @@ use lib.Dec.{eqb, ltb}
 use lib.ListN.{length, set, replicate, length-append}
 use lib.Seq.{set-at}
 use borrow.Author.Tests.{eq-eqb, ne-eqb, lt-ltb, le-ltb, ltb-true, ltb-false}
-use Rattle.address.specs.Places.{full}
-use Rattle.frames.specs.Wrapping.{innerOf, rightlyWrapped}
-use Rattle.frames.specs.Numbers.{unwrapNumber, outputAfter}
-use Rattle.rules.specs.declared.Node.{Node}
-use Rattle.rules.specs.Record.{padded, holding, withMode, heldOf, tidyMode, tidied}
-use Rattle.rules.specs.Outcomes.{isDeaf}
-use Rattle.rules.specs.Step.{obeyed}
-use Rattle.rules.specs.Uart.{UartStep, silent, viaUart, taken, afterBad, received, isClosed, uartStep}
-use Rattle.rules.proofs.Tidying.{Holdable, held-holdable, holdable-few, tidy-held}
+use Rattle.memory_address.specs.Places.{full}
+use Rattle.frame_can.specs.Wrapping.{innerOf, rightlyWrapped}
+use Rattle.frame_can.specs.Numbers.{unwrapNumber, outputAfter}
+use Rattle.node_rules.specs.declared.Node.{Node}
+use Rattle.node_rules.specs.Record.{padded, holding, withMode, heldOf, tidyMode, tidied}
+use Rattle.node_rules.specs.Outcomes.{isDeaf}
+use Rattle.node_rules.specs.Step.{obeyed}
+use Rattle.node_rules.specs.Uart.{UartStep, silent, viaUart, taken, afterBad, received, isClosed, uartStep}
+use Rattle.node_rules.proofs.Tidying.{Holdable, held-holdable, holdable-few, tidy-held}
 use Rattle.node.specs.Listening.{heldWith, fifteen, took, wholeFrame, listened}
 
 -- ---- the fifteenth byte

@@ -5,14 +5,14 @@ use mathlib.Core.Path.{_≡_, _∙_, refl, ap}
 use mathlib.Core.Bool.{Bool, true, false, cond}
 use mathlib.Core.List.{List}
 use Prim.Native.Nat.{ℕ}
-use Rattle.rules.specs.declared.Node.{Node}
-use Rattle.rules.specs.declared.Action.{Action}
-use Rattle.rules.specs.declared.Action.the-variants.{Refuse}
-use Rattle.rules.specs.declared.Answer.{Answer}
-use Rattle.rules.specs.Requests.{dataIn}
-use Rattle.rules.specs.Outcomes.{decided}
-use Rattle.rules.specs.Replies.{quiet}
-use Rattle.rules.specs.Step.{after, flashDone, eepromDone, answerTo, acted, obeyed}
+use Rattle.node_rules.specs.declared.Node.{Node}
+use Rattle.node_rules.specs.declared.Action.{Action}
+use Rattle.node_rules.specs.declared.Action.the-variants.{Refuse}
+use Rattle.node_rules.specs.declared.Answer.{Answer}
+use Rattle.node_rules.specs.Requests.{dataIn}
+use Rattle.node_rules.specs.Outcomes.{decided}
+use Rattle.node_rules.specs.Replies.{quiet}
+use Rattle.node_rules.specs.Step.{after, flashDone, eepromDone, answerTo, acted, obeyed}
 
 module _ (n : Node) (fits : Bool) (f flash eeprom : List ℕ) where
   decided-obeyed : acted n (cond fits (decided n f) (Refuse 1)) f flash eeprom

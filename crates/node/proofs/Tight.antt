@@ -5,8 +5,8 @@ use contract.Lifetimes.{Lfts}
 use borrow.Fn.World.{ArgsD, ResD}
 use denote.Triple.Clauses.{AtExit}
 use borrow.Fn.Kinds.{endedOf}
-use Rattle.rules.specs.Step.{Step}
-use Rattle.rules.specs.Uart.{UartStep}
+use Rattle.node_rules.specs.Step.{Step}
+use Rattle.node_rules.specs.Uart.{UartStep}
 use Rattle.node.proofs.fresh.{signature as fresh-signature}
 use Rattle.node.proofs.fresh.Kinds as fresh-kinds
 use Rattle.node.proofs.fresh.Reads as fresh-reads

@@ -4,13 +4,13 @@ use mathlib.Core.Bool.{Bool, not, cond}
 use mathlib.Core.List.{List, []}
 use lib.Dec.{eqb, ltb}
 use lib.ListN.{set}
-use Rattle.frames.specs.Wrapping.{innerOf}
-use Rattle.frames.specs.Numbers.{unwrapNumber}
-use Rattle.rules.specs.declared.Node.{Node}
-use Rattle.rules.specs.Record.{holding}
-use Rattle.rules.specs.Outcomes.{isDeaf}
-use Rattle.rules.specs.Step.{obeyed}
-use Rattle.rules.specs.Uart.{UartStep, silent, viaUart, isClosed}
+use Rattle.frame_can.specs.Wrapping.{innerOf}
+use Rattle.frame_can.specs.Numbers.{unwrapNumber}
+use Rattle.node_rules.specs.declared.Node.{Node}
+use Rattle.node_rules.specs.Record.{holding}
+use Rattle.node_rules.specs.Outcomes.{isDeaf}
+use Rattle.node_rules.specs.Step.{obeyed}
+use Rattle.node_rules.specs.Uart.{UartStep, silent, viaUart, isClosed}
 
 -- one byte more behind those that are held
 abbrev pub heldWith : Node → ℕ → Node

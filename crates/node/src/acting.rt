@@ -1,11 +1,11 @@
 // A frame is decided, done to the memories, and answered.
 ghost use mathlib.Core.Path.{_≡_};
 ghost use mathlib.Core.Bool.{cond};
-ghost use Rattle.rules.specs.Requests.{dataIn};
-ghost use Rattle.rules.specs.Replies.{quiet};
-ghost use Rattle.rules.specs.Step.{after, obeyed};
-use rules::Answer;
-use rules::Node;
+ghost use Rattle.node_rules.specs.Requests.{dataIn};
+ghost use Rattle.node_rules.specs.Replies.{quiet};
+ghost use Rattle.node_rules.specs.Step.{after, obeyed};
+use node_rules::Answer;
+use node_rules::Node;
 
 // The eight data bytes.
 fn data_of(frame: &[u8]) -> [u8; 8]
@@ -27,7 +27,7 @@ fn data_of(frame: &[u8]) -> [u8; 8]
 pub fn obey(n: Node, full: bool, frame: &[u8], flash: &mut [u8], eeprom: &mut [u8]) -> Answer
     ensures { λ r. ⌜ after r (now (flash .exit)) (now (eeprom .exit)) ≡ cond full (obeyed n (now (frame .entry)) (now (flash .entry)) (now (eeprom .entry))) (after (quiet 1 n) (now (flash .entry)) (now (eeprom .entry))) ⌝ }
 {
-    let a = decide::decide(n, full, frame);
-    change::change(a, data_of(frame), flash, eeprom);
-    answer::answer(n, a, frame, flash, eeprom)
+    let a = node_decide::decide(n, full, frame);
+    node_change::change(a, data_of(frame), flash, eeprom);
+    node_reply::answer(n, a, frame, flash, eeprom)
 }

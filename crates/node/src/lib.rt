@@ -4,21 +4,21 @@ mod acting;
 mod port;
 
 ghost use mathlib.Core.Path.{_≡_};
-ghost use Rattle.address.specs.Places.{full};
-ghost use Rattle.rules.specs.Record.{freshNode};
-ghost use Rattle.rules.specs.Restart.{restartStep};
-ghost use Rattle.rules.specs.Step.{after, canStep};
-ghost use Rattle.rules.specs.Uart.{uartAfter, uartStep};
-use address::EEPROM_CELLS;
-use address::FLASH_CELLS;
-use address::Group;
-use address::Module;
-use rules::Answer;
-use rules::Mode;
-use rules::Node;
-use rules::Pin;
-use rules::Restarted;
-use rules::UartAnswer;
+ghost use Rattle.memory_address.specs.Places.{full};
+ghost use Rattle.node_rules.specs.Record.{freshNode};
+ghost use Rattle.node_rules.specs.Restart.{restartStep};
+ghost use Rattle.node_rules.specs.Step.{after, canStep};
+ghost use Rattle.node_rules.specs.Uart.{uartAfter, uartStep};
+use memory_address::EEPROM_CELLS;
+use memory_address::FLASH_CELLS;
+use memory_address::Group;
+use memory_address::Module;
+use node_rules::Answer;
+use node_rules::Mode;
+use node_rules::Node;
+use node_rules::Pin;
+use node_rules::Restarted;
+use node_rules::UartAnswer;
 
 // A fresh node with these six fixed bytes: own numbers 0, nothing held, pin CAN only, waiting for restart.
 pub fn fresh(fixed: [u8; 6]) -> Node
@@ -50,10 +50,10 @@ pub fn restart(node: Node, pin: Pin, passed: bool, flash: &[u8], eeprom: &[u8]) 
     ensures { λ r. ⌜ r ≡ restartStep node pin passed (now (flash .entry)) (now (eeprom .entry)) ⌝ }
 {
     if full(flash, eeprom) {
-        let n = restart::node_after(node, pin, passed, flash, eeprom);
+        let n = node_restart::node_after(node, pin, passed, flash, eeprom);
         return Restarted { number: 0, node: n };
     }
-    let n = tidy::tidy(node);
+    let n = node_record::tidy(node);
     Restarted { number: 1, node: n }
 }
 
@@ -61,7 +61,7 @@ pub fn restart(node: Node, pin: Pin, passed: bool, flash: &[u8], eeprom: &[u8]) 
 pub fn can_frame(node: Node, frame: &[u8], flash: &mut [u8], eeprom: &mut [u8]) -> Answer
     ensures { λ r. ⌜ after r (now (flash .exit)) (now (eeprom .exit)) ≡ canStep node (now (frame .entry)) (now (flash .entry)) (now (eeprom .entry)) ⌝ }
 {
-    let n = tidy::tidy(node);
+    let n = node_record::tidy(node);
     let fits = full(flash, eeprom);
     acting::obey(n, fits, frame, flash, eeprom)
 }
@@ -70,7 +70,7 @@ pub fn can_frame(node: Node, frame: &[u8], flash: &mut [u8], eeprom: &mut [u8]) 
 pub fn uart_byte(node: Node, byte: u8, flash: &mut [u8], eeprom: &mut [u8]) -> UartAnswer
     ensures { λ r. ⌜ uartAfter r (now (flash .exit)) (now (eeprom .exit)) ≡ uartStep node byte (now (flash .entry)) (now (eeprom .entry)) ⌝ }
 {
-    let n = tidy::tidy(node);
+    let n = node_record::tidy(node);
     let fits = full(flash, eeprom);
     port::listen(n, fits, byte, flash, eeprom)
 }

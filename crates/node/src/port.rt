@@ -2,15 +2,15 @@
 ghost use mathlib.Core.Path.{_≡_};
 ghost use Prim.Native.Nat.{_<_, _≤_};
 ghost use mathlib.Core.List.{[]};
-ghost use Rattle.rules.specs.Record.{holding};
-ghost use Rattle.rules.specs.Outcomes.{isDeaf};
-ghost use Rattle.rules.specs.Uart.{uartAfter, silentAnswer, isClosed};
+ghost use Rattle.node_rules.specs.Record.{holding};
+ghost use Rattle.node_rules.specs.Outcomes.{isDeaf};
+ghost use Rattle.node_rules.specs.Uart.{uartAfter, silentAnswer, isClosed};
 ghost use Rattle.node.specs.Listening.{heldWith, took, wholeFrame, listened};
 use super::acting;
-use rules::Mode;
-use rules::Node;
-use rules::Pin;
-use rules::UartAnswer;
+use node_rules::Mode;
+use node_rules::Node;
+use node_rules::Pin;
+use node_rules::UartAnswer;
 
 // No reply.
 pub fn silent(number: u8, n: Node) -> UartAnswer
@@ -111,10 +111,10 @@ fn complete(n: Node, byte: u8, flash: &mut [u8], eeprom: &mut [u8]) -> UartAnswe
     let mut whole = n.held;
     whole[14] = byte;
     let mut frame = [0u8; 12];
-    let number = wrap::unwrap(&whole, &mut frame);
+    let number = frame_uart::unwrap(&whole, &mut frame);
     if number == 0 {
         let a = acting::obey(emptied(n), true, &frame, flash, eeprom);
-        return uart::on_uart(a);
+        return node_reply_uart::on_uart(a);
     }
     silent(11, emptied(n))
 }

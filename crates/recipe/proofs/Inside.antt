@@ -4,8 +4,8 @@ use mathlib.Core.List.{List}
 use Prim.Native.Nat.{ℕ, _+_, _≤_, _<_}
 use native.Mathlib.Omega.{arith}
 use lib.ListN.{length}
-use Rattle.address.specs.Places.{flashCells, eepromCells, eepromCell}
-use Rattle.address.proofs.Laws.{flash-within, eeprom-within}
+use Rattle.memory_address.specs.Places.{flashCells, eepromCells, eepromCell}
+use Rattle.memory_address.proofs.Laws.{flash-within, eeprom-within}
 use Rattle.recipe.specs.Items.{Item, block, row, LegalItem}
 
 pub block-inside : (a : ℕ) (d : List ℕ) → LegalItem (block a d) → (0x001000 ≤ a) × (a + length d ≤ flashCells)

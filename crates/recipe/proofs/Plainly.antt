@@ -10,7 +10,7 @@ use lib.ListN.{length, getD, take, drop, length-set}
 use lib.Seq.{sets, sets-eq, length-sets, getD-set-same, getD-set-other}
 use Rattle.base.specs.Parts.{patch}
 use Rattle.base.proofs.Patched.{elsewhere-patch}
-use Rattle.address.specs.Places.{flashCells, eepromCells, eepromCell, bootfl}
+use Rattle.memory_address.specs.Places.{flashCells, eepromCells, eepromCell, bootfl}
 use Rattle.recipe.specs.Items.{Item, block, row, Recipe, Legal, LegalItem, LegalItems}
 use Rattle.recipe.proofs.Inside.{block-inside, row-inside}
 use Rattle.recipe.specs.Plain.{Memories, plainItem, plainItems, plainly}

@@ -4,7 +4,7 @@ use mathlib.Core.Bool.{Bool, false, _||_, cond, not}
 use mathlib.Core.List.{List, [], _∷_}
 use lib.Dec.{ltb, eqb}
 use lib.ListN.{length, getD}
-use Rattle.address.specs.Rule.{legalFlash, legalEeprom}
+use Rattle.memory_address.specs.Rule.{legalFlash, legalEeprom}
 
 -- "One byte of kind": of the item that `input` starts with
 abbrev pub kindOf : List ℕ → ℕ

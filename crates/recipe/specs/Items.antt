@@ -6,7 +6,7 @@ use mathlib.Core.List.{List, [], _∷_, _++_}
 use Prim.Native.Nat.{ℕ, _/_, _%_, _≤_, _<_}
 use lib.ListN.{length}
 use Rattle.base.proofs.Bytes.{Bytes}
-use Rattle.address.specs.Rule.{legalFlash, legalEeprom}
+use Rattle.memory_address.specs.Rule.{legalFlash, legalEeprom}
 
 -- "0x02 Block: address 3, data 64", "0x03 Row: EEPROM address 3, data 8"
 pub data Item : Type 0 where

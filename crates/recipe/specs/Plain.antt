@@ -4,7 +4,7 @@ use Prim.Native.Nat.{ℕ}
 use mathlib.Core.List.{List, [], _∷_}
 use lib.ListN.{set}
 use lib.Seq.{sets}
-use Rattle.address.specs.Places.{eepromCell, bootfl}
+use Rattle.memory_address.specs.Places.{eepromCell, bootfl}
 use Rattle.recipe.specs.Items.{Item, block, row, Recipe}
 
 pub record Memories : Type 0 where

@@ -7,20 +7,20 @@ use mathlib.Core.List.{List, [], _∷_}
 use Prim.Native.Nat.{ℕ, _<_}
 use native.Mathlib.Omega.{arith}
 use lib.ListN.{length, set}
-use Rattle.address.specs.Places.{flashCells, eepromCells, eepromCell, bootfl}
-use Rattle.rules.specs.declared.Staged.{Staged}
-use Rattle.rules.specs.declared.Mode.the-variants.{Programming, Waiting}
-use Rattle.rules.specs.declared.Node.{Node}
-use Rattle.rules.specs.Record.{withMode, tidied, legalStaged}
-use Rattle.rules.specs.Step.{Step}
-use Rattle.rules.proofs.TidiedOnce.{programming, tidied-legal}
-use Rattle.rules.proofs.Pairs.{tidied-first, leaves}
+use Rattle.memory_address.specs.Places.{flashCells, eepromCells, eepromCell, bootfl}
+use Rattle.node_rules.specs.declared.Staged.{Staged}
+use Rattle.node_rules.specs.declared.Mode.the-variants.{Programming, Waiting}
+use Rattle.node_rules.specs.declared.Node.{Node}
+use Rattle.node_rules.specs.Record.{withMode, tidied, legalStaged}
+use Rattle.node_rules.specs.Step.{Step}
+use Rattle.node_rules.proofs.TidiedOnce.{programming, tidied-legal}
+use Rattle.node_rules.proofs.Pairs.{tidied-first, leaves}
 use Rattle.recipe.specs.Items.{Item, Recipe, Legal, LegalItems}
 use Rattle.recipe.specs.Frames.{leaveFrame, framesOf, frameCount}
 use Rattle.recipe.specs.Plain.{Memories, plainItems, plainly}
 use Rattle.recipe.proofs.Framing.{count-frames}
 use Rattle.recipe.proofs.Plainly.{plain-items-sizes}
-use Rattle.deliver.specs.Delivery.{followed, delivered}
+use Rattle.update_deliver.specs.Delivery.{followed, delivered}
 use Rattle.update.specs.Mirror.{silent, answersOf}
 use Rattle.update.specs.Updated.{Ready, updated}
 use Rattle.update.proofs.Items.{items-delivered}

@@ -14,9 +14,9 @@ use lib.Dec.{ltb}
 use lib.ListN.{length}
 use borrow.Author.Tests.{ltb-true, ltb-false}
 use Rattle.base.proofs.Bytes.{Bytes}
-use Rattle.address.specs.Places.{flashCells, eepromCells}
-use Rattle.rules.specs.declared.Node.{Node}
-use Rattle.rules.specs.Step.{Step}
+use Rattle.memory_address.specs.Places.{flashCells, eepromCells}
+use Rattle.node_rules.specs.declared.Node.{Node}
+use Rattle.node_rules.specs.Step.{Step}
 use Rattle.node.proofs.can_frame.{signature}
 use Rattle.node.proofs.can_frame.Kinds as kinds
 use Rattle.node.proofs.can_frame.Reads as reads
@@ -25,12 +25,12 @@ use Rattle.recipe.specs.Items.{Recipe, Legal, printed}
 use Rattle.recipe.specs.Frames.{framesOf, frameCount}
 use Rattle.recipe.specs.Reading.{recipeOf}
 use Rattle.recipe.specs.Plain.{Memories}
-use Rattle.translate.proofs.translate.{signature as translate-signature}
-use Rattle.translate.proofs.translate.Kinds as translate-kinds
-use Rattle.translate.proofs.translate.Reads as translate-reads
-use Rattle.translate.proofs.Translating.{accepts-every-legal, refuses-short-output, accepts-only-legal}
-use Rattle.deliver.specs.Delivery.{Delivery, told, behind, followed, delivered}
-use Rattle.deliver.specs.Taken.{framesIn}
+use Rattle.recipe_translate.proofs.translate.{signature as translate-signature}
+use Rattle.recipe_translate.proofs.translate.Kinds as translate-kinds
+use Rattle.recipe_translate.proofs.translate.Reads as translate-reads
+use Rattle.recipe_translate.proofs.Translating.{accepts-every-legal, refuses-short-output, accepts-only-legal}
+use Rattle.update_deliver.specs.Delivery.{Delivery, told, behind, followed, delivered}
+use Rattle.update_deliver.specs.Taken.{framesIn}
 use Rattle.update.specs.Updated.{Ready, updated}
 use Rattle.update.proofs.AnswerThree.{answer-three}
 use Rattle.update.proofs.Taking.{recipe-taken}

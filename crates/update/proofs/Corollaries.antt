@@ -11,19 +11,19 @@ use lib.Seq.{getD-set-other}
 use borrow.Author.Tests.{eq-eqb}
 use Rattle.base.specs.Parts.{part}
 use Rattle.base.proofs.Patched.{inside-patch}
-use Rattle.address.specs.Places.{flashCells, eepromCells, eepromCell, bootfl}
-use Rattle.sum.specs.Sum.{starts}
-use Rattle.rules.specs.declared.Mode.the-variants.{Normal, Waiting}
-use Rattle.rules.specs.declared.Node.{Node}
-use Rattle.rules.specs.declared.Pin.{Pin}
-use Rattle.rules.specs.Record.{withMode, tidied}
-use Rattle.rules.specs.Restart.{restartStep}
+use Rattle.memory_address.specs.Places.{flashCells, eepromCells, eepromCell, bootfl}
+use Rattle.memory_sum.specs.Sum.{starts}
+use Rattle.node_rules.specs.declared.Mode.the-variants.{Normal, Waiting}
+use Rattle.node_rules.specs.declared.Node.{Node}
+use Rattle.node_rules.specs.declared.Pin.{Pin}
+use Rattle.node_rules.specs.Record.{withMode, tidied}
+use Rattle.node_rules.specs.Restart.{restartStep}
 use Rattle.recipe.specs.Items.{Item, block, row, Recipe, Legal, LegalItem, LegalItems}
 use Rattle.recipe.specs.Frames.{framesOf, itemsCount, frameCount}
 use Rattle.recipe.specs.Plain.{Memories, plainItem, plainItems, plainly}
 use Rattle.recipe.proofs.Inside.{block-inside, row-inside}
 use Rattle.recipe.proofs.Plainly.{Each, OutsideFlash, OutsideEeprom, plain-block, plain-row, plain-item-sizes, plain-items-sizes, flash-unchanged, eeprom-unchanged, plain-sizes, plain-flash-unchanged, plain-eeprom-unchanged, bootfl-zero}
-use Rattle.deliver.specs.Delivery.{Delivery, delivered}
+use Rattle.update_deliver.specs.Delivery.{Delivery, delivered}
 use Rattle.update.specs.Mirror.{mirrored, answersOf}
 use Rattle.update.proofs.Mirroring.{answers-many, answers-last, answers-mirror, shows, erase-shown, write-shown, row-shown}
 use Rattle.update.specs.Updated.{Ready, updated}

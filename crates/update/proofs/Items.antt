@@ -7,19 +7,19 @@ use Prim.Native.Nat.{ℕ, _+_}
 use native.Mathlib.Omega.{arith}
 use lib.ListN.{length, take, drop, replicate, length-take}
 use Rattle.base.specs.Parts.{patch}
-use Rattle.address.specs.Places.{eepromCell}
-use Rattle.address.specs.declared.Address.the-variants.{Flash, Eeprom}
-use Rattle.address.proofs.Laws.{flash-ruled, eeprom-ruled, flash-within, eeprom-within, block-rows}
-use Rattle.cells.specs.Memory.{flashErased}
-use Rattle.cells.proofs.Laws.{erased-done, erased-length, eeprom-written-done}
-use Rattle.rules.specs.declared.Node.{Node}
-use Rattle.rules.proofs.TidiedOnce.{programming}
-use Rattle.rules.proofs.Pairs.{writeEeprom, erases, writes-eeprom, answered, showOf}
+use Rattle.memory_address.specs.Places.{eepromCell}
+use Rattle.memory_address.specs.declared.Address.the-variants.{Flash, Eeprom}
+use Rattle.memory_address.proofs.Laws.{flash-ruled, eeprom-ruled, flash-within, eeprom-within, block-rows}
+use Rattle.memory_cells.specs.Memory.{flashErased}
+use Rattle.memory_cells.proofs.Laws.{erased-done, erased-length, eeprom-written-done}
+use Rattle.node_rules.specs.declared.Node.{Node}
+use Rattle.node_rules.proofs.TidiedOnce.{programming}
+use Rattle.node_rules.proofs.Pairs.{writeEeprom, erases, writes-eeprom, answered, showOf}
 use Rattle.recipe.specs.Items.{Item, block, row, LegalItem, LegalItems}
 use Rattle.recipe.specs.Frames.{writes, itemFrames, itemsFrames}
 use Rattle.recipe.specs.Plain.{Memories, plainItem, plainItems}
 use Rattle.recipe.proofs.Plainly.{plain-block, plain-row, plain-item-sizes}
-use Rattle.deliver.specs.Delivery.{Delivery, behind, delivered}
+use Rattle.update_deliver.specs.Delivery.{Delivery, behind, delivered}
 use Rattle.update.specs.Mirror.{mirrored}
 use Rattle.update.proofs.Rows.{Ends, pair, rows}
 

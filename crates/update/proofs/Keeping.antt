@@ -7,16 +7,16 @@ use Prim.Native.Nat.{ℕ, _≤_}
 use lib.Dec.{lit≤}
 use lib.ListN.{length, replicate, length-set}
 use Rattle.base.proofs.Choice.{by-cond}
-use Rattle.address.specs.Places.{eepromCell, bootfl}
-use Rattle.address.specs.declared.Address.the-variants.{Flash, Eeprom}
-use Rattle.frames.specs.Frame.{typeOf}
-use Rattle.cells.proofs.Laws.{written-length, erased-length, eeprom-written-length}
-use Rattle.rules.specs.declared.Node.{Node}
-use Rattle.rules.specs.declared.Action.{Action}
-use Rattle.rules.specs.declared.Action.the-variants.{Refuse, Unstage, Enter, Wait, Hardware, Firmware, Describe, Device, Leave, Stage, Show, Put, Clear}
-use Rattle.rules.specs.Record.{heldOf}
-use Rattle.rules.specs.Replies.{replyOf, firmwareData, firmwareErrorData, isFirmwareError}
-use Rattle.rules.specs.Step.{Step, acted}
+use Rattle.memory_address.specs.Places.{eepromCell, bootfl}
+use Rattle.memory_address.specs.declared.Address.the-variants.{Flash, Eeprom}
+use Rattle.frame_can.specs.Frame.{typeOf}
+use Rattle.memory_cells.proofs.Laws.{written-length, erased-length, eeprom-written-length}
+use Rattle.node_rules.specs.declared.Node.{Node}
+use Rattle.node_rules.specs.declared.Action.{Action}
+use Rattle.node_rules.specs.declared.Action.the-variants.{Refuse, Unstage, Enter, Wait, Hardware, Firmware, Describe, Device, Leave, Stage, Show, Put, Clear}
+use Rattle.node_rules.specs.Record.{heldOf}
+use Rattle.node_rules.specs.Replies.{replyOf, firmwareData, firmwareErrorData, isFirmwareError}
+use Rattle.node_rules.specs.Step.{Step, acted}
 
 pub record Kept (t : Node) (s : Step) (flash eeprom : List ℕ) : Type 0 where
   pub samePin : s .answer .node .pin ≡ t .pin

@@ -10,24 +10,24 @@ use lib.ListN.{length, take, drop, replicate, length-append, length-take, length
 use lib.Seq.{take-at, drop-at, take-append-seam, drop-append-add}
 use Rattle.base.specs.Parts.{part, patch}
 use Rattle.base.proofs.Bytes.{Bytes, bytes-take, bytes-drop}
-use Rattle.address.specs.Rule.{ruled, legalFlash}
-use Rattle.address.specs.declared.Address.{Address}
-use Rattle.address.specs.declared.Address.the-variants.{Flash}
-use Rattle.address.specs.declared.Ruled.the-variants.{Legal}
-use Rattle.address.proofs.Laws.{flash-ruled, flash-within}
-use Rattle.cells.specs.Leaves.{combined}
-use Rattle.cells.specs.Memory.{flashWritten}
-use Rattle.cells.proofs.Laws.{written-done}
-use Rattle.cells.proofs.Combined.{over-blank}
-use Rattle.rules.specs.declared.Staged.{Staged}
-use Rattle.rules.specs.declared.Node.{Node}
-use Rattle.rules.specs.Record.{legalStaged}
-use Rattle.rules.specs.Requests.{commandAt}
-use Rattle.rules.specs.Step.{Step, canStep}
-use Rattle.rules.proofs.TidiedOnce.{programming}
-use Rattle.rules.proofs.Pairs.{addressTo, dataTo, showOf, writeFlash, answered, stages, writes-flash}
+use Rattle.memory_address.specs.Rule.{ruled, legalFlash}
+use Rattle.memory_address.specs.declared.Address.{Address}
+use Rattle.memory_address.specs.declared.Address.the-variants.{Flash}
+use Rattle.memory_address.specs.declared.Ruled.the-variants.{Legal}
+use Rattle.memory_address.proofs.Laws.{flash-ruled, flash-within}
+use Rattle.memory_cells.specs.Leaves.{combined}
+use Rattle.memory_cells.specs.Memory.{flashWritten}
+use Rattle.memory_cells.proofs.Laws.{written-done}
+use Rattle.memory_cells.proofs.Combined.{over-blank}
+use Rattle.node_rules.specs.declared.Staged.{Staged}
+use Rattle.node_rules.specs.declared.Node.{Node}
+use Rattle.node_rules.specs.Record.{legalStaged}
+use Rattle.node_rules.specs.Requests.{commandAt}
+use Rattle.node_rules.specs.Step.{Step, canStep}
+use Rattle.node_rules.proofs.TidiedOnce.{programming}
+use Rattle.node_rules.proofs.Pairs.{addressTo, dataTo, showOf, writeFlash, answered, stages, writes-flash}
 use Rattle.recipe.specs.Frames.{writes}
-use Rattle.deliver.specs.Delivery.{Delivery, behind, followed, delivered}
+use Rattle.update_deliver.specs.Delivery.{Delivery, behind, followed, delivered}
 use Rattle.update.specs.Mirror.{mirrored}
 
 -- what a frame does, and then the others

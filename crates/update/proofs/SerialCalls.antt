@@ -8,15 +8,15 @@ use contract.Lifetimes.{Lfts}
 use borrow.Fn.World.{ArgsD, ResD}
 use denote.Triple.Clauses.{AtExit}
 use borrow.Fn.Kinds.{endedOf}
-use Rattle.rules.specs.declared.Node.{Node}
-use Rattle.rules.specs.Uart.{UartStep}
+use Rattle.node_rules.specs.declared.Node.{Node}
+use Rattle.node_rules.specs.Uart.{UartStep}
 use Rattle.node.proofs.uart_byte.{signature}
 use Rattle.node.proofs.uart_byte.Kinds as kinds
 use Rattle.node.proofs.uart_byte.Reads as reads
 use Rattle.recipe.specs.Items.{Recipe, Legal}
 use Rattle.recipe.specs.Frames.{framesOf}
 use Rattle.recipe.specs.Plain.{Memories}
-use Rattle.deliver.specs.Delivery.{Delivery, behind}
+use Rattle.update_deliver.specs.Delivery.{Delivery, behind}
 use Rattle.update.specs.Serial.{toldOnUart, followedOnUart, fed, wrappedAll, onSerial, OpenPort}
 use Rattle.update.specs.Updated.{Ready, updated}
 use Rattle.update.proofs.Serially.{answer-three-serial}

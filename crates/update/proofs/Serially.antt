@@ -13,22 +13,22 @@ use borrow.Author.Tests.{eq-eqb, lt-ltb, le-ltb}
 use Rattle.base.specs.Parts.{listed, sumOf}
 use Rattle.base.proofs.Choice.{true-both}
 use Rattle.base.proofs.Listed.{listed-part}
-use Rattle.address.specs.Places.{full}
-use Rattle.frames.specs.Wrapping.{wrappedOf}
-use Rattle.frames.proofs.Wrapped.{wrapped-length, wrapped-inner, wrapped-right}
-use Rattle.rules.specs.declared.Node.{Node}
-use Rattle.rules.specs.declared.Answer.{Answer}
-use Rattle.rules.specs.declared.Action.the-variants.{Refuse}
-use Rattle.rules.specs.Record.{holding, withMode, heldOf, tidyMode, tidied}
-use Rattle.rules.specs.Outcomes.{isDeaf, decided}
-use Rattle.rules.specs.Step.{Step, acted, obeyed, canStep}
-use Rattle.rules.specs.Uart.{UartStep, taken, isClosed, onUart, viaUart, silent, received, uartTidy, uartStep}
-use Rattle.rules.proofs.Tidying.{Holdable, held-held, tidied-mode, holding-tidy}
+use Rattle.memory_address.specs.Places.{full}
+use Rattle.frame_can.specs.Wrapping.{wrappedOf}
+use Rattle.frame_can.proofs.Wrapped.{wrapped-length, wrapped-inner, wrapped-right}
+use Rattle.node_rules.specs.declared.Node.{Node}
+use Rattle.node_rules.specs.declared.Answer.{Answer}
+use Rattle.node_rules.specs.declared.Action.the-variants.{Refuse}
+use Rattle.node_rules.specs.Record.{holding, withMode, heldOf, tidyMode, tidied}
+use Rattle.node_rules.specs.Outcomes.{isDeaf, decided}
+use Rattle.node_rules.specs.Step.{Step, acted, obeyed, canStep}
+use Rattle.node_rules.specs.Uart.{UartStep, taken, isClosed, onUart, viaUart, silent, received, uartTidy, uartStep}
+use Rattle.node_rules.proofs.Tidying.{Holdable, held-held, tidied-mode, holding-tidy}
 use Rattle.recipe.specs.Items.{Recipe, Legal}
 use Rattle.recipe.specs.Frames.{itemsFrames, framesOf, joined}
 use Rattle.recipe.specs.Plain.{Memories}
 use Rattle.recipe.proofs.Framing.{Twelve, frames-twelve}
-use Rattle.deliver.specs.Delivery.{Delivery, told, behind, delivered}
+use Rattle.update_deliver.specs.Delivery.{Delivery, told, behind, delivered}
 use Rattle.update.specs.Serial.{toldOnUart, followedOnUart, fed, wrappedAll, incompleteTold, wrappedTold, onSerial, OpenPort}
 use Rattle.update.proofs.Keeping.{kept}
 use Rattle.update.specs.Mirror.{mirrored, silent as nothingTold, answersOf}

@@ -8,7 +8,7 @@ use lib.Seq.{take-at, drop-at}
 use Rattle.recipe.specs.Items.{Recipe, Legal}
 use Rattle.recipe.specs.Frames.{framesOf, joined, frameCount}
 use Rattle.recipe.proofs.Framing.{Twelve, frames-twelve, count-frames}
-use Rattle.deliver.specs.Taken.{framesIn}
+use Rattle.update_deliver.specs.Taken.{framesIn}
 
 taken-back : (frames : List (List ℕ)) (rest : List ℕ) → Twelve frames → framesIn (length frames) (joined frames ++ rest) ≡ frames
 unfolding framesIn joined

@@ -13,8 +13,8 @@ use borrow.Fn.Kinds.{endedOf}
 use lib.Dec.{ltb}
 use lib.ListN.{length, drop}
 use Rattle.base.proofs.Choice.{by-cond}
-use Rattle.address.specs.Places.{flashCells, eepromCells}
-use Rattle.rules.specs.declared.Node.{Node}
+use Rattle.memory_address.specs.Places.{flashCells, eepromCells}
+use Rattle.node_rules.specs.declared.Node.{Node}
 use Rattle.recipe.specs.declared.Translated.{Translated}
 use Rattle.recipe.specs.declared.Translated.the-variants.{Frames, Refused}
 use Rattle.recipe.specs.Items.{Recipe, Legal, printed}
@@ -23,15 +23,15 @@ use Rattle.recipe.specs.Plain.{Memories}
 use Rattle.recipe.specs.Translation.{checked, translated}
 use Rattle.recipe.proofs.Accepts.{accepts-legal, output-legal, short-output}
 use Rattle.recipe.proofs.Answers.{refusal-first}
-use Rattle.deliver.specs.Delivery.{Delivery, delivered}
-use Rattle.deliver.specs.Delivering.{Left, handedBy, handedOver, roomFor, left, leftBy, deliverBy, deliverStep}
+use Rattle.update_deliver.specs.Delivery.{Delivery, delivered}
+use Rattle.update_deliver.specs.Delivering.{Left, handedBy, handedOver, roomFor, left, leftBy, deliverBy, deliverStep}
 use Rattle.update.specs.Updated.{Ready, wholly}
 use Rattle.update.proofs.AnswerThree.{answer-three}
-use Rattle.deliver.proofs.Outcome.{room-within}
+use Rattle.update_deliver.proofs.Outcome.{room-within}
 use Rattle.update.proofs.Taking.{recipe-taken}
-use Rattle.deliver.proofs.deliver.{signature}
-use Rattle.deliver.proofs.deliver.Kinds as kinds
-use Rattle.deliver.proofs.deliver.Reads as reads
+use Rattle.update_deliver.proofs.deliver.{signature}
+use Rattle.update_deliver.proofs.deliver.Kinds as kinds
+use Rattle.update_deliver.proofs.deliver.Reads as reads
 
 -- ---- over the definitions
 

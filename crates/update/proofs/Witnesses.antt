@@ -9,17 +9,17 @@ use native.Mathlib.Omega.{arith}
 use lib.Dec.{lit<}
 use lib.ListN.{getD, replicate}
 use Rattle.base.proofs.Bytes.{Bytes}
-use Rattle.address.specs.Rule.{ruled}
-use Rattle.rules.specs.declared.Pin.the-variants.{CanAndUart}
-use Rattle.rules.specs.declared.Staged.the-variants.{Nothing}
-use Rattle.rules.specs.declared.Mode.the-variants.{Programming}
-use Rattle.rules.specs.declared.Node.{Node}
-use Rattle.rules.specs.Record.{heldOf, tidied}
-use Rattle.rules.proofs.Witnesses.{blank, sized}
+use Rattle.memory_address.specs.Rule.{ruled}
+use Rattle.node_rules.specs.declared.Pin.the-variants.{CanAndUart}
+use Rattle.node_rules.specs.declared.Staged.the-variants.{Nothing}
+use Rattle.node_rules.specs.declared.Mode.the-variants.{Programming}
+use Rattle.node_rules.specs.declared.Node.{Node}
+use Rattle.node_rules.specs.Record.{heldOf, tidied}
+use Rattle.node_rules.proofs.Witnesses.{blank, sized}
 use Rattle.recipe.specs.Items.{row, Recipe, Legal}
 use Rattle.recipe.specs.Frames.{framesOf}
 use Rattle.recipe.specs.Plain.{Memories}
-use Rattle.deliver.specs.Delivery.{delivered}
+use Rattle.update_deliver.specs.Delivery.{delivered}
 use Rattle.update.specs.Updated.{Ready}
 use Rattle.update.specs.Serial.{OpenPort}
 use Rattle.update.proofs.Corollaries.{last-row, bootfl-ends-zero}

@@ -5,15 +5,15 @@ use mathlib.Core.Bool.{cond}
 use mathlib.Core.List.{List, [], _∷_, _++_, map}
 use lib.Dec.{eqb}
 use lib.ListN.{length, getD, take, drop, replicate}
-use Rattle.frames.specs.Wrapping.{wrappedOf}
-use Rattle.address.specs.Places.{flashCells, eepromCells}
-use Rattle.rules.specs.declared.Pin.the-variants.{CanAndUart}
-use Rattle.rules.specs.declared.Node.{Node}
-use Rattle.rules.specs.declared.UartAnswer.{UartAnswer}
-use Rattle.rules.specs.Record.{heldOf}
-use Rattle.rules.specs.Uart.{UartStep, uartStep}
+use Rattle.frame_can.specs.Wrapping.{wrappedOf}
+use Rattle.memory_address.specs.Places.{flashCells, eepromCells}
+use Rattle.node_rules.specs.declared.Pin.the-variants.{CanAndUart}
+use Rattle.node_rules.specs.declared.Node.{Node}
+use Rattle.node_rules.specs.declared.UartAnswer.{UartAnswer}
+use Rattle.node_rules.specs.Record.{heldOf}
+use Rattle.node_rules.specs.Uart.{UartStep, uartStep}
 use Rattle.recipe.specs.Frames.{joined}
-use Rattle.deliver.specs.Delivery.{Delivery, behind}
+use Rattle.update_deliver.specs.Delivery.{Delivery, behind}
 
 -- what is told of the answer to a byte: the number, how many replies, and the 15 bytes of the first (0 where there is none)
 abbrev pub toldOnUart : UartAnswer → List ℕ

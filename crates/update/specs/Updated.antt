@@ -3,17 +3,17 @@ use mathlib.Core.Path.{_≡_}
 use mathlib.Core.List.{List, _++_}
 use Prim.Native.Nat.{ℕ, _*_}
 use lib.ListN.{drop}
-use Rattle.rules.specs.declared.Staged.{Staged}
-use Rattle.rules.specs.declared.Mode.the-variants.{Programming, Waiting}
-use Rattle.rules.specs.declared.Node.{Node}
-use Rattle.rules.specs.Record.{withMode, tidied}
+use Rattle.node_rules.specs.declared.Staged.{Staged}
+use Rattle.node_rules.specs.declared.Mode.the-variants.{Programming, Waiting}
+use Rattle.node_rules.specs.declared.Node.{Node}
+use Rattle.node_rules.specs.Record.{withMode, tidied}
 use Rattle.recipe.specs.declared.Translated.the-variants.{Frames}
 use Rattle.recipe.specs.Items.{Recipe}
 use Rattle.recipe.specs.Frames.{framesOf, joined, frameCount}
 use Rattle.recipe.specs.Plain.{Memories, plainly}
-use Rattle.deliver.specs.Delivery.{Delivery}
+use Rattle.update_deliver.specs.Delivery.{Delivery}
 use Rattle.update.specs.Mirror.{answersOf}
-use Rattle.deliver.specs.Delivering.{Left, left}
+use Rattle.update_deliver.specs.Delivering.{Left, left}
 
 -- "a node in programming mode (tidied record) that bears the recipe's numbers, whatever is staged"
 pub record Ready (n : Node) (r : Recipe) : Type 0 where

@@ -1,10 +1,10 @@
 -- `apply::restarted` meets its contract: it is `node::fresh`, then `node::restart`, by their contracts. Assumes nothing.
 use mathlib.Core.Path.{_∙_, ap}
 use mathlib.Core.Bool.{true}
-use Rattle.rules.specs.declared.Node.{Node}
-use Rattle.rules.specs.declared.Restarted.{Restarted}
-use Rattle.rules.specs.declared.Pin.the-variants.{CanOnly}
-use Rattle.rules.specs.Restart.{restartStep}
+use Rattle.node_rules.specs.declared.Node.{Node}
+use Rattle.node_rules.specs.declared.Restarted.{Restarted}
+use Rattle.node_rules.specs.declared.Pin.the-variants.{CanOnly}
+use Rattle.node_rules.specs.Restart.{restartStep}
 use borrow.Author.Needs.{needs}
 use Rattle.apply.proofs.restarted.Statement.{statement}
 use Rattle.apply.proofs.restarted.Tie as tie

@@ -1,6 +1,6 @@
 -- `node::can_frame` meets its contract: the tidied node obeys, and says 1 where the memories aren't full.
 -- Assumes nothing.
-use Rattle.rules.specs.Step.{canStep}
+use Rattle.node_rules.specs.Step.{canStep}
 use borrow.Author.Needs.{needs}
 use Rattle.node.proofs.can_frame.Statement.{statement}
 use Rattle.node.proofs.can_frame.Tie as tie

@@ -1,7 +1,7 @@
 -- `node::fresh` meets its contract: the record is written out.
 -- Assumes nothing.
 use mathlib.Core.Path.{refl}
-use Rattle.rules.specs.Record.{freshNode}
+use Rattle.node_rules.specs.Record.{freshNode}
 use Rattle.node.proofs.fresh.Statement.{statement}
 use Rattle.node.proofs.fresh.Tie as tie
 

@@ -1,6 +1,6 @@
 -- `node::restart` meets its contract: over full memories the record after a restart, else 1.
 -- Assumes nothing.
-use Rattle.rules.specs.Restart.{restartStep}
+use Rattle.node_rules.specs.Restart.{restartStep}
 use borrow.Author.Needs.{needs}
 use Rattle.node.proofs.restart.Statement.{statement}
 use Rattle.node.proofs.restart.Tie as tie

@@ -2,7 +2,7 @@
 -- Assumes nothing.
 use mathlib.Core.Path.{_∙_, ap}
 use mathlib.Core.List.{[]}
-use Rattle.rules.specs.Uart.{viaUart}
+use Rattle.node_rules.specs.Uart.{viaUart}
 use Rattle.node.proofs.Listening.{whole-done, whole-bad}
 use borrow.Author.Needs.{needs}
 use Rattle.node.proofs.port.complete.Statement.{statement}

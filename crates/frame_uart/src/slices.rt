@@ -1,0 +1,35 @@
+// What wrapping and unwrapping ask of a whole slice.
+ghost use mathlib.Core.Path.{_≡_};
+ghost use Prim.Native.Nat.{_%_};
+ghost use Rattle.base.specs.Parts.{sumOf};
+ghost use Rattle.frame_can.specs.Wrapping.{rightlyWrapped};
+
+// The sum of the bytes, modulo 256.
+pub fn sum_of(bytes: &[u8]) -> u8
+    ensures { λ r. ⌜ r ≡ sumOf (now (bytes .entry)) % 256 ⌝ }
+{
+    let mut sum: u8 = 0;
+    let mut i: usize = 0;
+    while i < bytes.len() {
+        sum = std::num::wrapping_add_u8(sum, bytes[i]);
+        i += 1;
+    }
+    sum
+}
+
+// Whether these are 15 bytes with a right start, sum and stop.
+pub fn rightly_wrapped(wrapped: &[u8]) -> bool
+    ensures { λ r. ⌜ r ≡ rightlyWrapped (now (wrapped .entry)) ⌝ }
+{
+    if wrapped.len() != 15 {
+        return false;
+    }
+    let sum = sum_of(&wrapped[1..13]);
+    if wrapped[0] != 0xAA {
+        return false;
+    }
+    if wrapped[13] != sum {
+        return false;
+    }
+    wrapped[14] == 0xA5
+}

@@ -1,0 +1,75 @@
+-- The address rule of document 01: "Legal rows (001, 5.7)". This is the one place where it stands; all else cites its laws.
+use Prim.Native.Nat.{ℕ, _%_}
+use mathlib.Core.Bool.{Bool, true, false, _&&_, cond}
+use lib.Dec.{leb, eqb}
+use Rattle.memory_address.specs.declared.Address.the-variants.{Flash, Eeprom}
+use Rattle.memory_address.specs.declared.Ruled.{Ruled}
+use Rattle.memory_address.specs.declared.Ruled.the-variants.{Legal, Illegal}
+
+-- a multiple of step from low to high, both in it
+abbrev pub multipleIn : ℕ → ℕ → ℕ → ℕ → Bool
+multipleIn step low high a = leb low a && (leb a high && eqb (a % step) 0)
+
+-- the rim, below which the loader lies: the first row of FLASH
+abbrev pub rim : ℕ
+rim = 0x001000
+
+-- the last row of FLASH and its last block, the first and the last row of EEPROM
+abbrev pub lastFlashRow : ℕ
+lastFlashRow = 0x00FFF8
+
+abbrev pub lastBlock : ℕ
+lastBlock = 0x00FFC0
+
+abbrev pub firstEepromRow : ℕ
+firstEepromRow = 0xF00000
+
+abbrev pub lastEepromRow : ℕ
+lastEepromRow = 0xF003F8
+
+abbrev pub inFlash : ℕ → Ruled
+inFlash a = Legal (Flash (record { 0 = a }))
+
+abbrev pub inEeprom : ℕ → Ruled
+inEeprom a = Legal (Eeprom (record { 0 = a }))
+
+-- "read 0x01 and write 0x02 at multiples of 8, in 0x001000 to 0x00FFF8 or 0xF00000 to 0xF003F8"
+abbrev pub rowOf : ℕ → Ruled
+rowOf a =
+    cond (multipleIn 8 rim lastFlashRow a) (inFlash a) (cond (multipleIn 8 firstEepromRow lastEepromRow a) (inEeprom a) Illegal)
+
+-- "Erase 0x03 at multiples of 64 in 0x001000 to 0x00FFC0; EEPROM has none."
+abbrev pub blockOf : ℕ → Ruled
+blockOf a = cond (multipleIn 64 rim lastBlock a) (inFlash a) Illegal
+
+-- the rule: what a command may work on at a number
+unfoldable pub ruled : ℕ → ℕ → Ruled
+ruled a command =
+    cond (eqb command 0x01) (rowOf a) (cond (eqb command 0x02) (rowOf a) (cond (eqb command 0x03) (blockOf a) Illegal))
+
+-- whether what the rule says lies in FLASH, or in EEPROM
+abbrev pub isFlash : Ruled → Bool
+isFlash (Legal (Flash f)) = true
+isFlash (Legal (Eeprom e)) = false
+isFlash Illegal = false
+
+abbrev pub isEeprom : Ruled → Bool
+isEeprom (Legal (Flash f)) = false
+isEeprom (Legal (Eeprom e)) = true
+isEeprom Illegal = false
+
+-- whether the rule lets the command work at all
+abbrev pub isLegal : Ruled → Bool
+isLegal (Legal a) = true
+isLegal Illegal = false
+
+-- whether a command is legal on FLASH, or on EEPROM, at a number
+abbrev pub legalFlash : ℕ → ℕ → Bool
+legalFlash a command = isFlash (ruled a command)
+
+abbrev pub legalEeprom : ℕ → ℕ → Bool
+legalEeprom a command = isEeprom (ruled a command)
+
+-- the number of a call that works at an address: 1 for a memory of the wrong length, then 8 for an illegal address, else 0
+abbrev pub numbered : Bool → Bool → ℕ
+numbered sized legal = cond sized (cond legal 0 8) 1

@@ -1,0 +1,178 @@
+-- The laws of the three functions that take an address, each proved once: a refused one changes nothing, a done one changes no cell
+-- but its own, lengths stay, FLASH below the rim stays, bytes stay bytes. The argument is one, over any patch that fits.
+-- Assumes nothing.
+use mathlib.Core.Path.{_≡_, _∙_, refl}
+use mathlib.Core.Bool.{true, _&&_}
+use mathlib.Core.List.{List}
+use mathlib.Core.Logic.{_⊎_, ⊎-elim, inl, inr}
+use Prim.Native.Nat.{ℕ, _+_, _-_, _≤_, _<_}
+use native.Mathlib.Omega.{arith}
+use lib.Dec.{eqb, lit<}
+use lib.ListN.{length, getD, replicate}
+use borrow.Author.Tests.{eqb-true, eq-eqb}
+use Rattle.base.specs.Parts.{part, patch}
+use Rattle.base.proofs.Choice.{by-cond}
+use Rattle.base.proofs.Bytes.{Bytes, bytes-patch, bytes-part, bytes-replicate}
+use Rattle.base.proofs.Patched.{part-length, length-patch, below-patch, elsewhere-patch}
+use Rattle.memory_address.specs.Places.{flashCells, eepromCells, eepromCell}
+use Rattle.memory_address.specs.Rule.{legalFlash, legalEeprom}
+use Rattle.memory_address.proofs.Laws.{cellsOf, zero-numbered, flash-within, eeprom-within}
+use Rattle.memory_cells.specs.Leaves.{combined, flashCellsAfter, eepromCellsAfter, erasedCells}
+use Rattle.memory_cells.specs.Memory.{where0, flashNumber, eepromNumber, flashWritten, flashErased, eepromWritten}
+use Rattle.memory_cells.proofs.Combined.{bytes-combined}
+use Rattle.memory_cells.proofs.Lengths.{length-flash-after, length-eeprom-after, length-erased}
+
+-- ---- one argument: n cells at b are replaced by as many, where the number is 0, and lie within
+
+module _ (number : ℕ) (m : List ℕ) (b n : ℕ) (new : List ℕ) (as-many : length new ≡ length (part m b n))
+    (fits : number ≡ 0 → b + n ≤ length m) where
+  within : number ≡ 0 → b + length new ≤ length m
+  within e = let f = fits e in rw (as-many, part-length m b n f) f
+
+  changed-length : length (where0 number (patch m b new) m) ≡ length m
+  changed-length =
+      by-cond (λ (x : List ℕ). length x ≡ length m) (eqb number 0) _ _
+      (λ t. length-patch m b new (within (eqb-true number 0 t))) (λ _. refl)
+
+  changed-elsewhere : (i : ℕ) → (i < b) ⊎ (b + n ≤ i) → getD (where0 number (patch m b new) m) i 0 ≡ getD m i 0
+  changed-elsewhere i o =
+      by-cond (λ (x : List ℕ). getD x i 0 ≡ getD m i 0) (eqb number 0) _ _
+      (λ t.
+      let f = fits (eqb-true number 0 t) in
+      let l : length new ≡ n = as-many ∙ part-length m b n f in
+      elsewhere-patch m b new (within (eqb-true number 0 t)) i (⊎-elim (λ h. inl h) (λ h. inr (rw l h)) o))
+      (λ _. refl)
+
+  changed-bytes : Bytes m → Bytes new → Bytes (where0 number (patch m b new) m)
+  changed-bytes h k = by-cond Bytes (eqb number 0) _ _ (λ _. bytes-patch m b new h k) (λ _. h)
+
+flash-done : (m : List ℕ) (a command : ℕ) → flashNumber m a command ≡ 0 → (length m ≡ 65536) × (legalFlash a command ≡ true)
+flash-done m a command e =
+    let z = zero-numbered (eqb (length m) flashCells) (legalFlash a command) e in
+    (eqb-true (length m) 65536 (z .0), z .1)
+
+eeprom-done : (m : List ℕ) (p command : ℕ) → eepromNumber m p command ≡ 0 → (length m ≡ 1024) × (legalEeprom p command ≡ true)
+eeprom-done m p command e =
+    let z = zero-numbered (eqb (length m) eepromCells) (legalEeprom p command) e in
+    (eqb-true (length m) 1024 (z .0), z .1)
+
+-- ---- the three functions: where their cells lie, and the laws of each
+
+flash-fits : (m : List ℕ) (a command : ℕ) → flashNumber m a command ≡ 0 → (0x001000 ≤ a) × (a + cellsOf command ≤ length m)
+flash-fits m a command e =
+    let d = flash-done m a command e in
+    let w = flash-within a command (d .1) in
+    (w .0, rw (d .0) (w .1))
+
+eeprom-fits : (m : List ℕ) (p command : ℕ) → eepromNumber m p command ≡ 0 → eepromCell p + cellsOf command ≤ length m
+eeprom-fits m p command e = let d = eeprom-done m p command e in let w = eeprom-within p command (d .1) in omega arith
+
+module _ (m : List ℕ) (a : ℕ) (new : List ℕ) where
+  pub written-length : length (flashWritten m a new) ≡ length m
+  unfolding flashWritten
+  written-length =
+      changed-length (flashNumber m a 0x02) m a 8 (flashCellsAfter (part m a 8) new) (length-flash-after (part m a 8) new)
+      (λ e. flash-fits m a 0x02 e .1)
+
+  pub written-elsewhere : (i : ℕ) → (i < a) ⊎ (a + 8 ≤ i) → getD (flashWritten m a new) i 0 ≡ getD m i 0
+  unfolding flashWritten
+  written-elsewhere =
+      changed-elsewhere (flashNumber m a 0x02) m a 8 (flashCellsAfter (part m a 8) new) (length-flash-after (part m a 8) new)
+      (λ e. flash-fits m a 0x02 e .1)
+
+  pub written-bytes : Bytes m → Bytes (flashWritten m a new)
+  unfolding flashWritten flashCellsAfter
+  written-bytes h =
+      changed-bytes (flashNumber m a 0x02) m a 8 (flashCellsAfter (part m a 8) new) (length-flash-after (part m a 8) new)
+      (λ e. flash-fits m a 0x02 e .1) h
+      (by-cond Bytes (eqb (length (part m a 8)) 8 && eqb (length new) 8) _ _
+      (λ _. bytes-combined (part m a 8) new (bytes-part m a 8 h)) (λ _. bytes-part m a 8 h))
+
+  pub eeprom-written-length : length (eepromWritten m a new) ≡ length m
+  unfolding eepromWritten
+  eeprom-written-length =
+      changed-length (eepromNumber m a 0x02) m (eepromCell a) 8 (eepromCellsAfter (part m (eepromCell a) 8) new)
+      (length-eeprom-after (part m (eepromCell a) 8) new) (eeprom-fits m a 0x02)
+
+  pub eeprom-written-elsewhere : (i : ℕ) → (i < eepromCell a) ⊎ (eepromCell a + 8 ≤ i)
+      → getD (eepromWritten m a new) i 0 ≡ getD m i 0
+  unfolding eepromWritten
+  eeprom-written-elsewhere =
+      changed-elsewhere (eepromNumber m a 0x02) m (eepromCell a) 8 (eepromCellsAfter (part m (eepromCell a) 8) new)
+      (length-eeprom-after (part m (eepromCell a) 8) new) (eeprom-fits m a 0x02)
+
+  pub eeprom-written-bytes : Bytes m → Bytes new → Bytes (eepromWritten m a new)
+  unfolding eepromWritten eepromCellsAfter
+  eeprom-written-bytes h k =
+      changed-bytes (eepromNumber m a 0x02) m (eepromCell a) 8 (eepromCellsAfter (part m (eepromCell a) 8) new)
+      (length-eeprom-after (part m (eepromCell a) 8) new) (eeprom-fits m a 0x02) h
+      (by-cond Bytes (eqb (length (part m (eepromCell a) 8)) 8 && eqb (length new) 8) _ _
+      (λ _. k) (λ _. bytes-part m (eepromCell a) 8 h))
+
+module _ (m : List ℕ) (a : ℕ) where
+  pub erased-length : length (flashErased m a) ≡ length m
+  unfolding flashErased
+  erased-length =
+      changed-length (flashNumber m a 0x03) m a 64 (erasedCells (part m a 64)) (length-erased (part m a 64))
+      (λ e. flash-fits m a 0x03 e .1)
+
+  pub erased-elsewhere : (i : ℕ) → (i < a) ⊎ (a + 64 ≤ i) → getD (flashErased m a) i 0 ≡ getD m i 0
+  unfolding flashErased
+  erased-elsewhere =
+      changed-elsewhere (flashNumber m a 0x03) m a 64 (erasedCells (part m a 64)) (length-erased (part m a 64))
+      (λ e. flash-fits m a 0x03 e .1)
+
+  pub erased-bytes : Bytes m → Bytes (flashErased m a)
+  unfolding flashErased erasedCells
+  erased-bytes h =
+      changed-bytes (flashNumber m a 0x03) m a 64 (erasedCells (part m a 64)) (length-erased (part m a 64))
+      (λ e. flash-fits m a 0x03 e .1) h
+      (by-cond Bytes (eqb (length (part m a 64)) 64) _ _
+      (λ _. bytes-replicate 64 0xFF (lit< tt)) (λ _. bytes-part m a 64 h))
+
+-- ---- FLASH below the rim stays, whatever the address
+
+below-rim : (number : ℕ) (x m : List ℕ) (i : ℕ) → (number ≡ 0 → getD x i 0 ≡ getD m i 0) → getD (where0 number x m) i 0 ≡ getD m i 0
+below-rim number x m i h =
+    by-cond (λ (y : List ℕ). getD y i 0 ≡ getD m i 0) (eqb number 0) _ _ (λ t. h (eqb-true number 0 t)) (λ _. refl)
+
+pub written-below-rim : (m : List ℕ) (a : ℕ) (new : List ℕ) (i : ℕ) → i < 0x001000 → getD (flashWritten m a new) i 0 ≡ getD m i 0
+unfolding flashWritten
+written-below-rim m a new i l =
+    below-rim (flashNumber m a 0x02) _ m i
+    (λ e.
+    let f = flash-fits m a 0x02 e in
+    below-patch m a (flashCellsAfter (part m a 8) new)
+    (rw (length-flash-after (part m a 8) new, part-length m a 8 (f .1)) (f .1)) i (omega arith))
+
+pub erased-below-rim : (m : List ℕ) (a i : ℕ) → i < 0x001000 → getD (flashErased m a) i 0 ≡ getD m i 0
+unfolding flashErased
+erased-below-rim m a i l =
+    below-rim (flashNumber m a 0x03) _ m i
+    (λ e.
+    let f = flash-fits m a 0x03 e in
+    below-patch m a (erasedCells (part m a 64)) (rw (length-erased (part m a 64), part-length m a 64 (f .1)) (f .1)) i
+    (omega arith))
+
+-- ---- a done command, cell for cell
+
+pub written-done : (m : List ℕ) (a : ℕ) (new : List ℕ) → length m ≡ 65536 → legalFlash a 0x02 ≡ true → length new ≡ 8
+    → flashWritten m a new ≡ patch m a (combined (part m a 8) new)
+unfolding flashWritten flashCellsAfter
+written-done m a new l h k =
+    let w = flash-within a 0x02 h in
+    simp (eq-eqb (length m) 65536 l, h, eq-eqb (length (part m a 8)) 8 (part-length m a 8 (omega arith)), eq-eqb (length new) 8 k)
+
+pub erased-done : (m : List ℕ) (a : ℕ) → length m ≡ 65536 → legalFlash a 0x03 ≡ true
+    → flashErased m a ≡ patch m a (replicate 64 0xFF)
+unfolding flashErased erasedCells
+erased-done m a l h =
+    let w = flash-within a 0x03 h in
+    simp (eq-eqb (length m) 65536 l, h, eq-eqb (length (part m a 64)) 64 (part-length m a 64 (omega arith)))
+
+pub eeprom-written-done : (m : List ℕ) (p : ℕ) (new : List ℕ) → length m ≡ 1024 → legalEeprom p 0x02 ≡ true → length new ≡ 8
+    → eepromWritten m p new ≡ patch m (eepromCell p) new
+unfolding eepromWritten eepromCellsAfter
+eeprom-written-done m p new l h k =
+    let w = eeprom-within p 0x02 h in
+    simp (eq-eqb (length m) 1024 l, h, eq-eqb (length (part m (eepromCell p) 8)) 8 (part-length m (eepromCell p) 8 (omega arith)), eq-eqb (length new) 8 k)

@@ -1,0 +1,42 @@
+-- `node_restart::node_after` meets its contract: the record is written out.
+-- Assumes nothing.
+use borrow.Author.Needs.{needs}
+use Rattle.node_restart.proofs.node_after.Statement.{statement}
+use Rattle.node_restart.proofs.node_after.Tie as tie
+
+sub-module-at : tie.Need-sub-module-at
+sub-module-at c = search needs
+
+cast-module-at : tie.Need-cast-module-at
+cast-module-at c = search needs
+
+sub-group-at : tie.Need-sub-group-at
+sub-group-at c = search needs
+
+cast-group-at : tie.Need-cast-group-at
+cast-group-at c = search needs
+
+byte-at-requires : tie.Need-byte-at-requires
+byte-at-requires c κs = search needs
+
+byte-at-requires-2 : tie.Need-byte-at-requires-2
+byte-at-requires-2 c κs = search needs
+
+mode-after-requires : tie.Need-mode-after-requires
+mode-after-requires c κs = search needs
+
+returns : tie.Need-returns
+returns c = simp (c .before .before .byte-at .ensures, c .before .byte-at2 .ensures, c .mode-after .ensures)
+
+pub node-after-spec : {M : Type 1} → statement M
+node-after-spec =
+    tie.close
+    (tie.spec
+    sub-module-at
+    cast-module-at
+    sub-group-at
+    cast-group-at
+    byte-at-requires
+    byte-at-requires-2
+    mode-after-requires
+    returns)

@@ -1,0 +1,81 @@
+-- Tidying: at most 14 bytes are held, tidying twice is tidying once, and a tidied record holds what it held.
+-- Assumes nothing.
+use mathlib.Core.Path.{_≡_, refl, ap}
+use mathlib.Core.Bool.{Bool, true, false, cond}
+use mathlib.Core.List.{List, [], _∷_}
+use Prim.Native.Nat.{ℕ, zero, suc, _-_, _≤_}
+use native.Mathlib.Omega.{arith}
+use lib.Dec.{leb, eqb}
+use lib.ListN.{length, getD, take, replicate, length-take}
+use lib.Seq.{take-at}
+use borrow.Author.Tests.{leb-true, le-leb, eqb-true, eq-eqb}
+use Rattle.base.proofs.Choice.{by-cond, both-true}
+use Rattle.node_rules.specs.declared.Staged.{Staged}
+use Rattle.node_rules.specs.declared.Staged.the-variants.{Nothing}
+use Rattle.node_rules.specs.declared.Mode.{Mode}
+use Rattle.node_rules.specs.declared.Mode.the-variants.{Normal, Programming, Error, Waiting}
+use Rattle.node_rules.specs.declared.Node.{Node}
+use Rattle.node_rules.specs.Record.{holding, withMode, mayHold, heldOf, legalStaged, tidyStaged, tidyMode, tidied}
+
+-- bytes that may be held: none, or at most 14 that start with 0xAA
+abbrev pub Holdable : List ℕ → Type 0
+Holdable [] = Unit {0}
+Holdable (x ∷ xs) = (x ≡ 0xAA) × (length xs ≤ 13)
+
+taken-holdable : (h : List ℕ) (count : ℕ) → count ≤ 14 → getD h 0 0 ≡ 0xAA → Holdable (take count h)
+taken-holdable h zero l e = tt
+taken-holdable [] (suc k) l e = tt
+taken-holdable (x ∷ h) (suc k) l e = (e, omega (arith, length-take k h))
+
+pub held-holdable : (n : Node) → Holdable (heldOf n)
+unfolding heldOf
+held-holdable n =
+    by-cond Holdable (mayHold n) _ _
+    (λ t.
+    let p = both-true (leb (n .count) 14) (eqb (getD (n .held) 0 0) 0xAA) t in
+    taken-holdable (n .held) (n .count) (leb-true (n .count) 14 (p .0)) (eqb-true (getD (n .held) 0 0) 0xAA (p .1)))
+    (λ _. tt)
+
+pub holdable-few : (xs : List ℕ) → Holdable xs → length xs ≤ 14
+holdable-few [] h = omega arith
+holdable-few (x ∷ xs) h = omega (arith, h .1)
+
+-- a record that holds such bytes holds them, whatever else it says
+pub held-held : (n : Node) (xs : List ℕ) → Holdable xs → heldOf (holding n xs) ≡ xs
+unfolding heldOf
+held-held n [] h = refl
+held-held n (x ∷ xs) h =
+    simp (le-leb (length (x ∷ xs)) 14 (holdable-few (x ∷ xs) h), eq-eqb x 0xAA (h .0))
+    (take-at (x ∷ xs) (replicate (15 - length (x ∷ xs)) 0) (length (x ∷ xs)) refl)
+
+pub tidy-held : (n : Node) → heldOf (tidied n) ≡ heldOf n
+unfolding tidied heldOf
+tidy-held n = held-held (withMode n (tidyMode (n .mode))) (heldOf n) (held-holdable n)
+
+-- a tidied mode is tidy
+staged-twice : (s : Staged) → tidyStaged (tidyStaged s) ≡ tidyStaged s
+staged-twice s = go (legalStaged s) refl
+  where
+    go : (b : Bool) → legalStaged s ≡ b → tidyStaged (cond b s Nothing) ≡ cond b s Nothing
+    go true e = rw e refl
+    go false e = refl
+
+pub mode-twice : (m : Mode) → tidyMode (tidyMode m) ≡ tidyMode m
+mode-twice (Normal b) = refl
+mode-twice (Programming s) = ap Programming (staged-twice s)
+mode-twice Error = refl
+mode-twice Waiting = refl
+
+pub tidied-mode : (n : Node) → tidyMode (tidied n .mode) ≡ tidied n .mode
+unfolding tidied
+tidied-mode n = mode-twice (n .mode)
+
+-- a record that holds such bytes in a tidy mode is tidy
+pub holding-tidy : (n : Node) (xs : List ℕ) → Holdable xs → tidyMode (n .mode) ≡ n .mode → tidied (holding n xs) ≡ holding n xs
+unfolding tidied
+holding-tidy n xs h e = simp (held-held n xs h, e)
+
+-- "tidying twice is tidying once"
+pub tidy-twice : (n : Node) → tidied (tidied n) ≡ tidied n
+unfolding tidied
+tidy-twice n = simp (held-held (withMode n (tidyMode (n .mode))) (heldOf n) (held-holdable n), mode-twice (n .mode))

@@ -1,0 +1,89 @@
+-- The node's record (document 01, "Node and modes"): what is held, what is legal to be staged, and the tidied record.
+use Prim.Native.Nat.{ℕ, _-_}
+use mathlib.Core.Bool.{Bool, true, _&&_, cond}
+use mathlib.Core.List.{List, [], _++_}
+use lib.Dec.{leb, eqb}
+use lib.ListN.{length, getD, take, replicate}
+use Rattle.memory_address.specs.Rule.{legalFlash, legalEeprom}
+use Rattle.memory_address.specs.declared.Address.{Address}
+use Rattle.memory_address.specs.declared.Address.the-variants.{Flash, Eeprom}
+use Rattle.node_rules.specs.declared.Pin.the-variants.{CanOnly}
+use Rattle.node_rules.specs.declared.Staged.{Staged}
+use Rattle.node_rules.specs.declared.Staged.the-variants.{Nothing, Read, Write, Erase}
+use Rattle.node_rules.specs.declared.Mode.{Mode}
+use Rattle.node_rules.specs.declared.Mode.the-variants.{Normal, Programming, Error, Waiting}
+use Rattle.node_rules.specs.declared.Node.{Node}
+
+-- unused room in the record is 0
+abbrev pub padded : List ℕ → List ℕ
+padded xs = xs ++ replicate (15 - length xs) 0
+
+-- the record that holds these bytes, and the record in this mode
+abbrev pub holding : Node → List ℕ → Node
+holding n xs =
+    record {
+      pin = n .pin;
+      fixed = n .fixed;
+      own = n .own;
+      group = n .group;
+      held = padded xs;
+      count = length xs;
+      mode = n .mode;
+    }
+
+abbrev pub withMode : Node → Mode → Node
+withMode n m =
+    record {
+      pin = n .pin;
+      fixed = n .fixed;
+      own = n .own;
+      group = n .group;
+      held = n .held;
+      count = n .count;
+      mode = m;
+    }
+
+-- "more than 14 held bytes, or held bytes not starting with 0xAA, count as none held"
+abbrev pub mayHold : Node → Bool
+mayHold n = leb (n .count) 14 && eqb (getD (n .held) 0 0) 0xAA
+
+unfoldable pub heldOf : Node → List ℕ
+heldOf n = cond (mayHold n) (take (n .count) (n .held)) []
+
+-- whether a command is legal at an address of either kind
+abbrev pub legalAt : Address → ℕ → Bool
+legalAt (Flash a) command = legalFlash (a .0) command
+legalAt (Eeprom p) command = legalEeprom (p .0) command
+
+abbrev pub legalStaged : Staged → Bool
+legalStaged Nothing = true
+legalStaged (Read a) = legalAt a 0x01
+legalStaged (Write a) = legalAt a 0x02
+legalStaged (Erase a) = legalFlash (a .0) 0x03
+
+-- "A staged command that isn't legal counts as none"
+abbrev pub tidyStaged : Staged → Staged
+tidyStaged s = cond (legalStaged s) s Nothing
+
+abbrev pub tidyMode : Mode → Mode
+tidyMode (Normal started) = Normal started
+tidyMode (Programming s) = Programming (tidyStaged s)
+tidyMode Error = Error
+tidyMode Waiting = Waiting
+
+-- "A caller may hand in any node record. .. "Unchanged" below means the record so tidied."
+unfoldable pub tidied : Node → Node
+tidied n = withMode (holding n (heldOf n)) (tidyMode (n .mode))
+
+-- "A fresh node takes the six bytes, has own numbers 0, no bytes held, pin CAN only, and waits for restart."
+unfoldable pub freshNode : List ℕ → Node
+freshNode six =
+    record {
+      pin = CanOnly;
+      fixed = six;
+      own = record { 0 = 0 };
+      group = record { 0 = 0 };
+      held = padded [];
+      count = 0;
+      mode = Waiting;
+    }

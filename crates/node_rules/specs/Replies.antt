@@ -1,0 +1,68 @@
+-- The replies of document 01's request table: "Replies carry the request's type, flag 1, own module and group."
+use Prim.Native.Nat.{ℕ, _+_, _*_, _/_, _%_}
+use mathlib.Core.Bool.{Bool, false, _&&_, not, cond}
+use mathlib.Core.List.{List, [], _∷_, _++_}
+use lib.Dec.{eqb}
+use lib.ListN.{getD, replicate}
+use Rattle.base.specs.Parts.{listed}
+use Rattle.memory_address.specs.Places.{eepromCell, description, atype, avers, fvers}
+use Rattle.memory_sum.specs.Sum.{firmwareSum}
+use Rattle.node_rules.specs.declared.Mode.{Mode}
+use Rattle.node_rules.specs.declared.Mode.the-variants.{Normal, Programming, Error, Waiting}
+use Rattle.node_rules.specs.declared.Node.{Node}
+use Rattle.node_rules.specs.declared.Answer.{Answer}
+
+-- a reply of this type with these eight data bytes
+abbrev pub replyOf : Node → ℕ → List ℕ → List ℕ
+replyOf n t d = t / 16 ∷ (t % 16 * 16 + 1) ∷ n .own .0 ∷ n .group .0 ∷ listed d 0 8
+
+-- 0x100: "FF FF 03 04 FF FF FF FF"
+abbrev pub enteredData : List ℕ
+enteredData = 0xFF ∷ 0xFF ∷ 0x03 ∷ 0x04 ∷ 0xFF ∷ 0xFF ∷ 0xFF ∷ 0xFF ∷ []
+
+-- 0x103, 0x104: "30 00 03 FF ID0 ID1 ID2 ID3"
+abbrev pub hardwareData : Node → List ℕ
+hardwareData n =
+    0x30 ∷ 0x00 ∷ 0x03 ∷ 0xFF ∷ getD (n .fixed) 0 0 ∷ getD (n .fixed) 1 0 ∷ getD (n .fixed) 2 0 ∷ getD (n .fixed) 3 0 ∷ []
+
+-- 0x105, 0x106: "30 00 03 ATYPE AVERS FVERS 03 04"
+abbrev pub firmwareData : List ℕ → List ℕ
+firmwareData flash =
+    0x30 ∷ 0x00 ∷ 0x03 ∷ getD flash atype 0 ∷ getD flash avers 0 ∷ getD flash fvers 0 ∷ 0x03 ∷ 0x04 ∷ []
+
+-- "To 0x106 with firmware not started the reply has type 0x1F1: 01, worked-out sum high byte first, FF FF 03 04"
+abbrev pub firmwareErrorData : List ℕ → List ℕ
+firmwareErrorData flash =
+    0x01 ∷ firmwareSum flash / 65536 % 256 ∷ firmwareSum flash / 256 % 256 ∷ firmwareSum flash % 256 ∷ 0xFF ∷ 0xFF ∷ 0x03 ∷ 0x04 ∷ []
+
+abbrev pub hasStarted : Mode → Bool
+hasStarted (Normal started) = started
+hasStarted (Programming s) = false
+hasStarted Error = false
+hasStarted Waiting = false
+
+-- a departure from 001, which has error frames for 0x105 too: document 01's sentence names 0x106 alone
+abbrev pub isFirmwareError : ℕ → Mode → Bool
+isFirmwareError t m = eqb t 0x106 && not (hasStarted m)
+
+abbrev pub firmwareReply : Node → ℕ → List ℕ → List ℕ
+firmwareReply n t flash =
+    cond (isFirmwareError t (n .mode)) (replyOf n 0x1F1 (firmwareErrorData flash)) (replyOf n t (firmwareData flash))
+
+-- 0x10D, 0x10E: "two frames, description 0 to 7 then 8 to 15"
+abbrev pub descriptionData : ℕ → List ℕ → List ℕ
+descriptionData i eeprom = listed eeprom (eepromCell description + i) 8
+
+-- 0x10F, 0x111: "DEVID1 DEVID2 then six FF"
+abbrev pub deviceData : Node → List ℕ
+deviceData n = getD (n .fixed) 4 0 ∷ getD (n .fixed) 5 0 ∷ replicate 6 0xFF
+
+-- an answer with no reply, with one and with two; unused room is 0
+abbrev pub quiet : ℕ → Node → Answer
+quiet number n = record { number = number; count = 0; replies = replicate 24 0; node = n }
+
+abbrev pub one : Node → List ℕ → Answer
+one n reply = record { number = 0; count = 1; replies = reply ++ replicate 12 0; node = n }
+
+abbrev pub two : Node → List ℕ → List ℕ → Answer
+two n first second = record { number = 0; count = 2; replies = first ++ second; node = n }

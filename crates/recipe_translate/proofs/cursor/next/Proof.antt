@@ -1,0 +1,44 @@
+-- `recipe_translate::cursor::next` meets its contract: the kind that it reads is the kind of what stands there.
+-- Assumes nothing.
+use Rattle.recipe_translate.proofs.Faulting.{next-is}
+use borrow.Author.Needs.{needs}
+use Rattle.recipe_translate.proofs.cursor.next.Statement.{statement}
+use Rattle.recipe_translate.proofs.cursor.next.Tie as tie
+
+shared-slice-read-kind : tie.Need-shared-slice-read-kind
+shared-slice-read-kind c = search needs
+
+body-length-requires : tie.Need-body-length-requires
+body-length-requires c κs = search needs
+
+add-t8 : tie.Need-add-t8
+add-t8 c = search needs
+
+add-t9 : tie.Need-add-t9
+add-t9 c = search needs
+
+add-t10 : tie.Need-add-t10
+add-t10 c = search needs
+
+frames-of-kind-requires : tie.Need-frames-of-kind-requires
+frames-of-kind-requires c κs = search needs
+
+add-t13 : tie.Need-add-t13
+add-t13 c = search needs
+
+returns : tie.Need-returns
+returns c =
+    next-is (c .before .before .before .before .before .before .args .input .now) (c .before .before .before .before .before .before .args .c) (c .before .before .before .body-length .result) (c .before .frames-of-kind .result) (c .before .before .before .body-length .ensures .0) (c .before .frames-of-kind .ensures .0)
+
+pub next-spec : {M : Type 1} → statement M
+next-spec =
+    tie.close
+    (tie.spec
+    shared-slice-read-kind
+    body-length-requires
+    add-t8
+    add-t9
+    add-t10
+    frames-of-kind-requires
+    add-t13
+    returns)

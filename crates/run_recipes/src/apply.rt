@@ -1,0 +1,80 @@
+// A recipe is translated, and its frames are handed to a node.
+use crate::hand;
+use crate::hand::Handed;
+use crate::header::Header;
+use crate::line::Line;
+use crate::slices;
+use recipe::Translated;
+use node_rules::Pin;
+
+// The line of a refusal.
+fn refused(number: u8, place: usize, output: &[u8]) -> Line {
+    Line {
+        number: number as u64,
+        place: place as u64,
+        frames: run_record::with_bytes(0, output),
+        answers: 0,
+        flash: 0,
+        eeprom: 0,
+        node: 0,
+    }
+}
+
+// The memories before the frames: filled, with BOOTFL 0xFF and the own numbers.
+fn prepare(h: Header, flash: &mut [u8], eeprom: &mut [u8]) {
+    slices::fill(flash, h.flash);
+    slices::fill(eeprom, h.eeprom);
+    slices::put(eeprom, 0, 0xFF);
+    slices::put(eeprom, 0x26, h.own);
+    slices::put(eeprom, 0x27, h.group);
+}
+
+// A fresh node with fixed bytes 0, restarted with pin CAN and UART and a passing self-test.
+fn started(flash: &[u8], eeprom: &[u8]) -> Handed {
+    let r = node::restart(node::fresh([0; 6]), Pin::CanAndUart, true, flash, eeprom);
+    let node = r.node;
+    Handed { node, answers: 0 }
+}
+
+// The line of a recipe that became `count` frames.
+fn done(count: usize, output: &[u8], h: Handed, flash: &[u8], eeprom: &[u8]) -> Line {
+    let node = h.node;
+    let last = run_record::bytes_of(node);
+    Line {
+        number: 0,
+        place: count as u64,
+        frames: run_record::with_bytes(0, output),
+        answers: h.answers,
+        flash: run_record::with_bytes(0, flash),
+        eeprom: run_record::with_bytes(0, eeprom),
+        node: run_record::with_bytes(0, &last),
+    }
+}
+
+// The frames of an output, handed to a node over prepared memories.
+fn hand_over(h: Header, count: usize, output: &[u8], flash: &mut [u8], eeprom: &mut [u8]) -> Line {
+    let start = started(flash, eeprom);
+    let last = hand::frames(start, h.port, output, count, flash, eeprom);
+    done(count, output, last, flash, eeprom)
+}
+
+fn apply(h: Header, count: usize, output: &[u8], flash: &mut [u8], eeprom: &mut [u8]) -> Line {
+    prepare(h, flash, eeprom);
+    hand_over(h, count, output, flash, eeprom)
+}
+
+// The line of a recipe, with the output that is lent to its translation.
+pub fn recipe(
+    h: Header,
+    input: &[u8],
+    output: &mut [u8],
+    flash: &mut [u8],
+    eeprom: &mut [u8],
+) -> Line {
+    slices::fill(output, 0xEE);
+    let t = recipe_translate::translate(input, output);
+    match t {
+        Translated::Frames(count) => apply(h, count, output, flash, eeprom),
+        Translated::Refused { number, place } => refused(number, place, output),
+    }
+}

@@ -1,0 +1,84 @@
+// How the long runs write things down (second/PROTOCOL.md): the node's record as 31 bytes, and the digest of bytes.
+mod last;
+
+ghost use mathlib.Core.Path.{_≡_};
+ghost use Rattle.run_record.specs.Record.{pinByte, nodeBytes};
+ghost use Rattle.run_record.specs.Digest.{oneMore, digestOf};
+use node_rules::Node;
+use node_rules::Pin;
+
+// The byte of the pin.
+fn pin_byte(p: Pin) -> u8
+    ensures { λ r. ⌜ r ≡ pinByte p ⌝ }
+{
+    match p {
+        Pin::CanOnly => 0,
+        Pin::CanAndUart => 1,
+    }
+}
+
+// The record as the 31 bytes NODE, for any record. The held bytes are written as they stand: a tidied record has 0 behind its count.
+pub fn bytes_of(n: Node) -> [u8; 31]
+    ensures { λ r. ⌜ r ≡ nodeBytes n ⌝ }
+{
+    let pin = n.pin;
+    let fixed = n.fixed;
+    let held = n.held;
+    let mode = n.mode;
+    let first = pin_byte(pin);
+    let last = last::last_of(mode);
+    [
+        first,
+        fixed[0],
+        fixed[1],
+        fixed[2],
+        fixed[3],
+        fixed[4],
+        fixed[5],
+        n.own.0,
+        n.group.0,
+        (n.count % 256) as u8,
+        held[0],
+        held[1],
+        held[2],
+        held[3],
+        held[4],
+        held[5],
+        held[6],
+        held[7],
+        held[8],
+        held[9],
+        held[10],
+        held[11],
+        held[12],
+        held[13],
+        last.mode,
+        last.staged,
+        last.kind,
+        (last.address / 16_777_216) as u8,
+        (last.address / 65_536 % 256) as u8,
+        (last.address / 256 % 256) as u8,
+        (last.address % 256) as u8,
+    ]
+}
+
+// The digest d with one byte more. Taken modulo 4,294,967,291 first, it can't pass 64 bits.
+fn with_byte(d: u64, b: u8) -> u64
+    ensures { λ r. ⌜ r ≡ oneMore d b ⌝ }
+{
+    let low = d % 4_294_967_291;
+    (low * 31 + b as u64 + 1) % 4_294_967_291
+}
+
+// The digest d with these bytes more.
+pub fn with_bytes(d: u64, bytes: &[u8]) -> u64
+    ensures { λ r. ⌜ r ≡ digestOf d (now (bytes .entry)) ⌝ }
+{
+    let mut digest = d;
+    let mut i: usize = 0;
+    while i < bytes.len() {
+        digest = with_byte(digest, bytes[i]);
+        i += 1;
+    }
+    digest
+}

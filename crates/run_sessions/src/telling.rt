@@ -1,0 +1,69 @@
+// Answers written down: into the digest, and as a line in full where the session still prints those.
+use crate::session;
+use crate::session::Session;
+use crate::slices;
+use node_rules::Node;
+
+// The lower-case hex digit of a number below 16.
+fn digit(n: u8) -> u8 {
+    if n % 16 < 10 {
+        return 48 + n % 16;
+    }
+    87 + n % 16
+}
+
+// A byte's two hex digits at `at`; answers the place behind them.
+fn spell(text: &mut [u8], at: usize, b: u8) -> usize {
+    let next = slices::push(text, at, digit(b / 16));
+    slices::push(text, next, digit(b))
+}
+
+// The hex digits of bytes; answers how many there are.
+fn spell_all(text: &mut [u8], bytes: &[u8]) -> usize {
+    let mut end: usize = 0;
+    let mut i: usize = 0;
+    while i < bytes.len() {
+        end = spell(text, end, bytes[i]);
+        i += 1;
+    }
+    end
+}
+
+// Prints bytes as a line of hex digits.
+fn print(bytes: &[u8]) {
+    let mut space = [0u8; 256];
+    print_with(bytes, &mut space);
+}
+
+fn print_with(bytes: &[u8], text: &mut [u8]) {
+    let digits = spell_all(text, bytes);
+    let end = slices::push(text, digits, 10);
+    io::write_all(1, slices::part(text, 0, end));
+}
+
+// The session after an event with these answer bytes, the kind in front.
+fn finish(s: Session, bytes: &[u8]) -> Session {
+    if 0 < s.full {
+        print(bytes);
+    }
+    session::answered(s, run_record::with_bytes(s.digest, bytes))
+}
+
+// The session after an event whose answer bytes, the kind in front, come in three pieces.
+pub fn write(s: Session, head: &[u8], middle: &[u8], last: &[u8]) -> Session {
+    let mut space = [0u8; 128];
+    write_with(s, head, middle, last, &mut space)
+}
+
+fn write_with(s: Session, head: &[u8], middle: &[u8], last: &[u8], line: &mut [u8]) -> Session {
+    let first = slices::append(line, 0, head);
+    let second = slices::append(line, first, middle);
+    let end = slices::append(line, second, last);
+    finish(s, slices::part(line, 0, end))
+}
+
+// The session with this node after an event whose answer ends with it as NODE.
+pub fn write_node(s: Session, head: &[u8], replies: &[u8], n: Node) -> Session {
+    let last = run_record::bytes_of(n);
+    write(session::with_node(s, n), head, replies, &last)
+}
