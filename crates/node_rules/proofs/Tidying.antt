@@ -14,43 +14,44 @@ use Rattle.node_rules.specs.declared.Staged.{Staged}
 use Rattle.node_rules.specs.declared.Staged.the-variants.{Nothing}
 use Rattle.node_rules.specs.declared.Mode.{Mode}
 use Rattle.node_rules.specs.declared.Mode.the-variants.{Normal, Programming, Error, Waiting}
+use Rattle.node_rules.specs.declared.Receiver.{Receiver}
 use Rattle.node_rules.specs.declared.Node.{Node}
-use Rattle.node_rules.specs.Record.{holding, withMode, mayHold, heldOf, legalStaged, tidyStaged, tidyMode, tidied}
+use Rattle.node_rules.specs.Record.{receiving, holding, withMode, mayHold, heldIn, heldOf, legalStaged, tidyStaged, tidyMode, tidied}
 
 -- bytes that may be held: none, or at most 14 that start with 0xAA
 abbrev pub Holdable : List ℕ → Type 0
 Holdable [] = Unit {0}
 Holdable (x ∷ xs) = (x ≡ 0xAA) × (length xs ≤ 13)
 
-taken-holdable : (h : List ℕ) (count : ℕ) → count ≤ 14 → getD h 0 0 ≡ 0xAA → Holdable (take count h)
-taken-holdable h zero l e = tt
-taken-holdable [] (suc k) l e = tt
-taken-holdable (x ∷ h) (suc k) l e = (e, omega (arith, length-take k h))
+first-holdable : (h : List ℕ) (count : ℕ) → count ≤ 14 → getD h 0 0 ≡ 0xAA → Holdable (take count h)
+first-holdable h zero l e = tt
+first-holdable [] (suc k) l e = tt
+first-holdable (x ∷ h) (suc k) l e = (e, omega (arith, length-take k h))
 
-pub held-holdable : (n : Node) → Holdable (heldOf n)
-unfolding heldOf
-held-holdable n =
-    by-cond Holdable (mayHold n) _ _
+pub held-holdable : (r : Receiver) → Holdable (heldIn r)
+unfolding heldIn
+held-holdable r =
+    by-cond Holdable (mayHold r) _ _
     (λ t.
-    let p = both-true (leb (n .count) 14) (eqb (getD (n .held) 0 0) 0xAA) t in
-    taken-holdable (n .held) (n .count) (leb-true (n .count) 14 (p .0)) (eqb-true (getD (n .held) 0 0) 0xAA (p .1)))
+    let p = both-true (leb (r .count) 14) (eqb (getD (r .held) 0 0) 0xAA) t in
+    first-holdable (r .held) (r .count) (leb-true (r .count) 14 (p .0)) (eqb-true (getD (r .held) 0 0) 0xAA (p .1)))
     (λ _. tt)
 
 pub holdable-few : (xs : List ℕ) → Holdable xs → length xs ≤ 14
 holdable-few [] h = omega arith
 holdable-few (x ∷ xs) h = omega (arith, h .1)
 
--- a record that holds such bytes holds them, whatever else it says
-pub held-held : (n : Node) (xs : List ℕ) → Holdable xs → heldOf (holding n xs) ≡ xs
-unfolding heldOf
-held-held n [] h = refl
-held-held n (x ∷ xs) h =
+-- what holds such bytes holds them
+pub held-held : (xs : List ℕ) → Holdable xs → heldIn (receiving xs) ≡ xs
+unfolding heldIn
+held-held [] h = refl
+held-held (x ∷ xs) h =
     simp (le-leb (length (x ∷ xs)) 14 (holdable-few (x ∷ xs) h), eq-eqb x 0xAA (h .0))
     (take-at (x ∷ xs) (replicate (15 - length (x ∷ xs)) 0) (length (x ∷ xs)) refl)
 
 pub tidy-held : (n : Node) → heldOf (tidied n) ≡ heldOf n
-unfolding tidied heldOf
-tidy-held n = held-held (withMode n (tidyMode (n .mode))) (heldOf n) (held-holdable n)
+unfolding tidied
+tidy-held n = held-held (heldOf n) (held-holdable (n .receiver))
 
 -- a tidied mode is tidy
 staged-twice : (s : Staged) → tidyStaged (tidyStaged s) ≡ tidyStaged s
@@ -73,9 +74,14 @@ tidied-mode n = mode-twice (n .mode)
 -- a record that holds such bytes in a tidy mode is tidy
 pub holding-tidy : (n : Node) (xs : List ℕ) → Holdable xs → tidyMode (n .mode) ≡ n .mode → tidied (holding n xs) ≡ holding n xs
 unfolding tidied
-holding-tidy n xs h e = simp (held-held n xs h, e)
+holding-tidy n xs h e = simp (held-held xs h, e)
 
 -- "tidying twice is tidying once"
 pub tidy-twice : (n : Node) → tidied (tidied n) ≡ tidied n
 unfolding tidied
-tidy-twice n = simp (held-held (withMode n (tidyMode (n .mode))) (heldOf n) (held-holdable n), mode-twice (n .mode))
+tidy-twice n = simp (held-held (heldOf n) (held-holdable (n .receiver)), mode-twice (n .mode))
+
+-- a tidy record in a tidy mode is tidy
+pub mode-tidy : (n : Node) → tidied n ≡ n → (m : Mode) → tidyMode m ≡ m → tidied (withMode n m) ≡ withMode n m
+unfolding tidied
+mode-tidy n e m t = cc (ap (λ (x : Node). x .receiver) e, t)

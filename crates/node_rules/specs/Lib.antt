@@ -1,9 +1,8 @@
 pub mod Record
-pub mod Table
 pub mod Requests
 pub mod Outcomes
 pub mod Replies
 pub mod Step
-pub mod Restart
 pub mod Uart
-pub mod Refused
+pub mod Restart
+pub mod Runs

@@ -7,48 +7,40 @@ use lib.ListN.{length, getD, take, replicate}
 use Rattle.memory_address.specs.Rule.{legalFlash, legalEeprom}
 use Rattle.memory_address.specs.declared.Address.{Address}
 use Rattle.memory_address.specs.declared.Address.the-variants.{Flash, Eeprom}
+use Rattle.node_rules.specs.declared.Pin.{Pin}
 use Rattle.node_rules.specs.declared.Pin.the-variants.{CanOnly}
 use Rattle.node_rules.specs.declared.Staged.{Staged}
 use Rattle.node_rules.specs.declared.Staged.the-variants.{Nothing, Read, Write, Erase}
 use Rattle.node_rules.specs.declared.Mode.{Mode}
 use Rattle.node_rules.specs.declared.Mode.the-variants.{Normal, Programming, Error, Waiting}
+use Rattle.node_rules.specs.declared.Choices.{Choices}
+use Rattle.node_rules.specs.declared.Receiver.{Receiver}
 use Rattle.node_rules.specs.declared.Node.{Node}
 
 -- unused room in the record is 0
 abbrev pub padded : List ℕ → List ℕ
 padded xs = xs ++ replicate (15 - length xs) 0
 
+-- what holds these bytes
+abbrev pub receiving : List ℕ → Receiver
+receiving xs = record { held = padded xs; count = length xs }
+
 -- the record that holds these bytes, and the record in this mode
 abbrev pub holding : Node → List ℕ → Node
-holding n xs =
-    record {
-      pin = n .pin;
-      fixed = n .fixed;
-      own = n .own;
-      group = n .group;
-      held = padded xs;
-      count = length xs;
-      mode = n .mode;
-    }
+holding n xs = record { choices = n .choices; plate = n .plate; receiver = receiving xs; mode = n .mode }
 
 abbrev pub withMode : Node → Mode → Node
-withMode n m =
-    record {
-      pin = n .pin;
-      fixed = n .fixed;
-      own = n .own;
-      group = n .group;
-      held = n .held;
-      count = n .count;
-      mode = m;
-    }
+withMode n m = record { choices = n .choices; plate = n .plate; receiver = n .receiver; mode = m }
 
 -- "more than 14 held bytes, or held bytes not starting with 0xAA, count as none held"
-abbrev pub mayHold : Node → Bool
-mayHold n = leb (n .count) 14 && eqb (getD (n .held) 0 0) 0xAA
+abbrev pub mayHold : Receiver → Bool
+mayHold r = leb (r .count) 14 && eqb (getD (r .held) 0 0) 0xAA
 
-unfoldable pub heldOf : Node → List ℕ
-heldOf n = cond (mayHold n) (take (n .count) (n .held)) []
+unfoldable pub heldIn : Receiver → List ℕ
+heldIn r = cond (mayHold r) (take (r .count) (r .held)) []
+
+abbrev pub heldOf : Node → List ℕ
+heldOf n = heldIn (n .receiver)
 
 -- whether a command is legal at an address of either kind
 abbrev pub legalAt : Address → ℕ → Bool
@@ -75,15 +67,16 @@ tidyMode Waiting = Waiting
 unfoldable pub tidied : Node → Node
 tidied n = withMode (holding n (heldOf n)) (tidyMode (n .mode))
 
+-- what a plain restart chooses: this pin, and for the rest what is meant where nothing is said
+abbrev pub plain : Pin → Choices
+plain pin = record { pin = pin }
+
 -- "A fresh node takes the six bytes, has own numbers 0, no bytes held, pin CAN only, and waits for restart."
 unfoldable pub freshNode : List ℕ → Node
 freshNode six =
     record {
-      pin = CanOnly;
-      fixed = six;
-      own = record { 0 = 0 };
-      group = record { 0 = 0 };
-      held = padded [];
-      count = 0;
+      choices = plain CanOnly;
+      plate = record { fixed = six; own = record { 0 = 0 }; group = record { 0 = 0 } };
+      receiver = receiving [];
       mode = Waiting;
     }

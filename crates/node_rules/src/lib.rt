@@ -1,5 +1,5 @@
-// The node's record, what a frame can ask of it and what a call answers. The rules themselves stand in specs/, laid out as document 01
-// is, and proofs/ has what follows from them alone.
+// The node's record, what a frame comes to and what a call answers. The rules themselves stand in specs/, laid out as document 01 is, and
+// proofs/ has what follows from them alone.
 use memory_address::Address;
 use memory_address::FlashAddress;
 use memory_address::Group;
@@ -27,15 +27,30 @@ pub enum Mode {
     Waiting,
 }
 
-// A node: the pin, ID0 to ID3 with DEVID1 and DEVID2, the own numbers, the held UART bytes (the first `count`; 0 behind them) and the
-// mode. At most 14 bytes are held: the fifteenth completes a frame.
-pub struct Node {
+// What is chosen at a restart, and kept until the next one that gives 0.
+pub struct Choices {
     pub pin: Pin,
+}
+
+// The plate: ID0 to ID3 with DEVID1 and DEVID2, and the own numbers, which a restart copies from EEPROM.
+pub struct Plate {
     pub fixed: [u8; 6],
     pub own: Module,
     pub group: Group,
+}
+
+// What is being received on UART: the first `count` bytes are held, and 0 stands behind them. At most 14 are held: the fifteenth
+// completes a frame.
+pub struct Receiver {
     pub held: [u8; 15],
     pub count: usize,
+}
+
+// A node.
+pub struct Node {
+    pub choices: Choices,
+    pub plate: Plate,
+    pub receiver: Receiver,
     pub mode: Mode,
 }
 
@@ -80,21 +95,45 @@ pub enum Found {
     Unhandled,
 }
 
-// What a frame comes to: a refusal with its number, 8 (which unstages), or what is to be done.
-pub enum Action {
-    Refuse(u8),
-    Unstage,
-    Enter,
-    Wait,
+// What becomes of the memories: they are kept, BOOTFL becomes a value, a row is written, or a block is erased.
+pub enum Memory {
+    Kept,
+    Bootfl(u8),
+    Written(Address),
+    Erased(FlashAddress),
+}
+
+// The mode afterwards: it stays, is programming with this staged, or is waiting for restart.
+pub enum Next {
+    Stays,
+    Programs(Staged),
+    Waits,
+}
+
+// Which reply: none, or the data of a row of the request table.
+pub enum Reply {
+    Silent,
+    Entered,
     Hardware,
     Firmware,
-    Describe,
+    Described,
     Device,
-    Leave,
-    Stage(Staged),
-    Show(Address),
-    Put(Address),
-    Clear(FlashAddress),
+    Echoed,
+    Cells(Address),
+}
+
+// What a frame comes to: its number, the reply, and what becomes of memories and mode.
+pub struct Effect {
+    pub number: u8,
+    pub reply: Reply,
+    pub memory: Memory,
+    pub next: Next,
+}
+
+// How many replies of 12 bytes, and their bytes; 0 behind them.
+pub struct Replies {
+    pub count: u8,
+    pub bytes: [u8; 24],
 }
 
 // The answer to a CAN frame: the number, how many replies of 12 bytes (0 behind them), and the node.

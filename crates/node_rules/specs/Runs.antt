@@ -1,0 +1,39 @@
+-- Calls one after the other, each to the node and the memories that the one before left.
+use Prim.Native.Nat.{ℕ}
+use mathlib.Core.List.{List, [], _∷_}
+use Rattle.node_rules.specs.declared.Node.{Node}
+use Rattle.node_rules.specs.Step.{Step, canStep}
+use Rattle.node_rules.specs.Uart.{UartStep, uartStep}
+
+-- what stands between two calls: the node and the two memories
+pub record State : Type 0 where
+  pub node : Node
+  pub flash : List ℕ
+  pub eeprom : List ℕ
+
+abbrev pub state : Node → List ℕ → List ℕ → State
+state n flash eeprom = record { node = n; flash = flash; eeprom = eeprom }
+
+-- all that each call leaves, in order, where `step` is a call and `left` what stands behind it
+abbrev pub stepsOf : {X S : Type 0} → (X → State → S) → (S → State) → List X → State → List S
+stepsOf step left [] s = []
+stepsOf step left (x ∷ xs) s = step x s ∷ stepsOf step left xs (left (step x s))
+
+-- what stands behind the last of them
+abbrev pub endOf : {S : Type 0} → (S → State) → State → List S → State
+endOf left s [] = s
+endOf left s (t ∷ ts) = endOf left (left t) ts
+
+-- CAN frames
+abbrev pub behindFrame : Step → State
+behindFrame s = state (s .answer .node) (s .flash) (s .eeprom)
+
+abbrev pub framesIn : List (List ℕ) → State → List Step
+framesIn = stepsOf (λ f s. canStep (s .node) f (s .flash) (s .eeprom)) behindFrame
+
+-- UART bytes
+abbrev pub behindByte : UartStep → State
+behindByte s = state (s .answer .node) (s .flash) (s .eeprom)
+
+abbrev pub bytesIn : List ℕ → State → List UartStep
+bytesIn = stepsOf (λ b s. uartStep (s .node) b (s .flash) (s .eeprom)) behindByte
