@@ -1,0 +1,56 @@
+-- Each call answers the number of the first outcome that holds, and a number but 0 fixes the rest: no reply, the node of its entry, both
+-- memories as they were. Both hold by the laws of the outcome table, since a call is what the table decides, done.
+-- Assumes nothing.
+use mathlib.Core.Path.{_≡_, ap}
+use mathlib.Core.List.{List}
+use Prim.Native.Nat.{ℕ}
+use Rattle.memory_address.specs.Places.{full}
+use Rattle.frame_can.specs.Wrapping.{innerOf}
+use Rattle.node_rules.specs.declared.Node.{Node}
+use Rattle.node_rules.specs.declared.Effect.{Effect}
+use Rattle.node_rules.specs.Record.{holding, heldOf, tidied}
+use Rattle.node_rules.specs.Outcomes.{afterwards, firstThat, canOutcomes, askedOf, decided}
+use Rattle.node_rules.specs.Step.{after, nodeAfter, done, canStep, silentAnswer}
+use Rattle.node_rules.specs.Uart.{uartAfter, heldWith, uartOutcomes, heldAfter, heldDone, uartStep, silentOnUart}
+use Rattle.node_rules.proofs.Deciding.{unless-number, unless-refused, asked-of-zero}
+
+module _ (n : Node) (f flash eeprom : List ℕ) where
+  -- the outcome table for this frame
+  abbrev numberOnCan : ℕ
+  numberOnCan = firstThat (canOutcomes (tidied n) (full flash eeprom) f)
+
+  pub can-number : canStep n f flash eeprom .answer .number ≡ firstThat (canOutcomes (tidied n) (full flash eeprom) f)
+  unfolding canStep done decided
+  can-number = unless-number (canOutcomes (tidied n) (full flash eeprom) f) (askedOf (tidied n) f) (asked-of-zero (tidied n) f)
+
+  pub can-refused : (firstThat (canOutcomes (tidied n) (full flash eeprom) f) ≡ 0 → ⊥)
+      → canStep n f flash eeprom
+      ≡ after (silentAnswer numberOnCan (nodeAfter (afterwards numberOnCan) (tidied n))) flash eeprom
+  unfolding canStep done decided
+  can-refused m =
+      ap (λ (e : Effect). done e (tidied n) f flash eeprom)
+      (unless-refused (canOutcomes (tidied n) (full flash eeprom) f) (askedOf (tidied n) f) m)
+
+module _ (n : Node) (b : ℕ) (flash eeprom : List ℕ) where
+  -- what is held with the byte, and the outcome table for it
+  abbrev withByte : List ℕ
+  withByte = heldWith (heldOf (tidied n)) b
+
+  abbrev numberOnUart : ℕ
+  numberOnUart = firstThat (uartOutcomes (tidied n) (full flash eeprom) b)
+
+  pub uart-number : uartStep n b flash eeprom .answer .number ≡ firstThat (uartOutcomes (tidied n) (full flash eeprom) b)
+  unfolding uartStep done
+  uart-number =
+      unless-number (uartOutcomes (tidied n) (full flash eeprom) b) (askedOf (tidied n) (innerOf withByte))
+      (asked-of-zero (tidied n) (innerOf withByte))
+
+  pub uart-refused : (firstThat (uartOutcomes (tidied n) (full flash eeprom) b) ≡ 0 → ⊥)
+      → uartStep n b flash eeprom
+      ≡ uartAfter
+      (silentOnUart numberOnUart (nodeAfter (afterwards numberOnUart) (holding (tidied n) (heldAfter numberOnUart (tidied n) withByte))))
+      flash eeprom
+  unfolding uartStep done
+  uart-refused m =
+      ap (λ (e : Effect). heldDone e (tidied n) withByte flash eeprom)
+      (unless-refused (uartOutcomes (tidied n) (full flash eeprom) b) (askedOf (tidied n) (innerOf withByte)) m)
