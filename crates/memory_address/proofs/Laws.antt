@@ -1,19 +1,21 @@
--- The laws of the address rule, by which every other crate knows it: where the cells of a legal command lie, and that a block's rows
--- may be written. The rule's text is opened here and nowhere else.
+-- The laws of the address rule, by which every other crate knows it: where the cells of a legal command lie, which cells no write or
+-- erase covers, and that what may be erased may be written, and what may be written be read. Each holds of the rule because it holds
+-- of its three parts, the row to read, the row to write and the block to erase; only the laws of the parts look at their bounds.
+-- No law of another crate opens the rule: beside these, only examples that are computed do.
 -- Assumes nothing.
 use mathlib.Core.Path.{_≡_, refl, ap}
 use mathlib.Core.Bool.{Bool, true, false, cond, false≢true}
-use Prim.Native.Nat.{ℕ, _+_, _*_, _%_, _≤_, _<_}
+use Prim.Native.Nat.{ℕ, _+_, _-_, _*_, _%_, _≤_, _<_}
 use native.Mathlib.Nat.{suc-ne-zero}
 use native.Mathlib.Omega.{arith}
 use mathlib.Core.Logic.{_⊎_, inl, inr}
 use lib.Dec.{leb, eqb}
-use borrow.Author.Tests.{leb-true, eqb-true, eq-eqb, le-leb}
+use borrow.Author.Tests.{leb-true, ltb-true, ltb-false, eqb-true, eq-eqb, le-leb, lt-ltb}
 use Rattle.base.proofs.Choice.{by-cond, both-true, true-both}
 use Rattle.memory_address.specs.declared.Address.the-variants.{Flash, Eeprom}
 use Rattle.memory_address.specs.declared.Ruled.{Ruled}
 use Rattle.memory_address.specs.declared.Ruled.the-variants.{Legal, Illegal}
-use Rattle.memory_address.specs.Rule.{multipleIn, rim, lastFlashRow, lastBlock, firstEepromRow, lastEepromRow, inFlash, inEeprom, rowOf, blockOf, ruled, isFlash, isEeprom, isLegal, legalFlash, legalEeprom, numbered}
+use Rattle.memory_address.specs.Rule.{multipleIn, rim, lastFlashRow, lastBlock, firstEepromRow, lastEepromRow, inFlash, inEeprom, rowOf, readRow, writeRow, blockOf, ruled, protected, isFlash, isEeprom, isLegal, legalFlash, legalEeprom, numbered}
 
 multiple-in : (step low high a : ℕ) → multipleIn step low high a ≡ true → (low ≤ a) × (a ≤ high) × (a % step ≡ 0)
 multiple-in step low high a e =
@@ -35,6 +37,8 @@ Within n a (Legal (Flash f)) = (f .0 ≡ a) × (0x001000 ≤ a) × (a + n ≤ 0x
 Within n a (Legal (Eeprom e)) = (e .0 ≡ a) × (0xF00000 ≤ a) × (a + n ≤ 0xF00400)
 Within n a Illegal = Unit {0}
 
+-- ---- the three parts: the row to read, the row to write, the block to erase
+
 row-within : (a : ℕ) → Within 8 a (rowOf a)
 row-within a =
     by-cond (Within 8 a) (multipleIn 8 rim lastFlashRow a) _ _
@@ -44,23 +48,96 @@ row-within a =
     (λ t. let m = multiple-in 8 firstEepromRow lastEepromRow a t in (refl, omega arith, omega arith))
     (λ _. tt))
 
+read-within : (a : ℕ) → Within 8 a (readRow a)
+read-within a = row-within a
+
+write-within : (a : ℕ) → Within 8 a (writeRow a)
+write-within a = row-within a
+
 block-within : (a : ℕ) → Within 64 a (blockOf a)
 block-within a =
     by-cond (Within 64 a) (multipleIn 64 rim lastBlock a) _ _
     (λ t. let m = multiple-in 64 rim lastBlock a t in (refl, omega arith, omega arith))
     (λ _. tt)
 
+-- a row of FLASH from the rim on may be written
+in-write : (a : ℕ) → 0x001000 ≤ a → a < 0x010000 → a % 8 ≡ 0 → isFlash (writeRow a) ≡ true
+in-write a l h m = rw (in-multiple 8 rim lastFlashRow a (omega arith) (omega arith) m) refl
+
+-- what a block that may be erased is
+block-in : (a : ℕ) → isFlash (blockOf a) ≡ true → (rim ≤ a) × (a ≤ lastBlock) × (a % 64 ≡ 0)
+block-in a =
+    by-cond (λ (r : Ruled). isFlash r ≡ true → (rim ≤ a) × (a ≤ lastBlock) × (a % 64 ≡ 0)) (multipleIn 64 rim lastBlock a) _ _
+    (λ e _. multiple-in 64 rim lastBlock a e) (λ _ t. absurd (false≢true t))
+
+block-writable : (a i : ℕ) → isFlash (blockOf a) ≡ true → i < 8 → isFlash (writeRow (a + 8 * i)) ≡ true
+block-writable a i t l = let m = block-in a t in in-write (a + 8 * i) (omega arith) (omega arith) (omega arith)
+
+-- what may be written may be read
+write-readable : (a : ℕ) → isFlash (writeRow a) ≡ true → isFlash (readRow a) ≡ true
+write-readable a t = t
+
+-- a block's first row is one of its rows, and what may be written may be read
+block-readable : (a : ℕ) → isFlash (blockOf a) ≡ true → isFlash (readRow a) ≡ true
+block-readable a t = write-readable a (let m = block-in a t in in-write a (omega arith) (omega arith) (omega arith))
+
+unprotected-writable : (c : ℕ) → c < 0x010000 → protected c ≡ false → isFlash (writeRow (c - c % 8)) ≡ true
+unfolding protected
+unprotected-writable c l p = let h = ltb-false c rim p in in-write (c - c % 8) (omega arith) (omega arith) (omega arith)
+
+no-eeprom-block : (a : ℕ) → isEeprom (blockOf a) ≡ false
+no-eeprom-block a = by-cond (λ (r : Ruled). isEeprom r ≡ false) (multipleIn 64 rim lastBlock a) _ _ (λ _. refl) (λ _. refl)
+
+eeprom-write-readable : (a : ℕ) → isEeprom (writeRow a) ≡ true → isEeprom (readRow a) ≡ true
+eeprom-write-readable a t = t
+
+write-spares : (a c : ℕ) → isFlash (writeRow a) ≡ true → protected c ≡ true → (c < a) ⊎ (a + 8 ≤ c)
+unfolding protected
+write-spares a c t p = let l = ltb-true c rim p in inl (go (writeRow a) t (write-within a) l)
+  where
+    go : (r : Ruled) → isFlash r ≡ true → Within 8 a r → c < rim → c < a
+    go (Legal (Flash f)) e w l = omega arith
+    go (Legal (Eeprom x)) e w l = absurd (false≢true e)
+    go Illegal e w l = absurd (false≢true e)
+
+block-spares : (a c : ℕ) → isFlash (blockOf a) ≡ true → protected c ≡ true → (c < a) ⊎ (a + 64 ≤ c)
+unfolding protected
+block-spares a c t p = let m = block-in a t in let l = ltb-true c rim p in inl (omega arith)
+
+-- the paper's number: every cell below 0x001000 is protected
+pub rim-protected : (c : ℕ) → c < 0x001000 → protected c ≡ true
+unfolding protected
+rim-protected c l = lt-ltb c 0x001000 l
+
+-- ---- the rule, by its parts
+
+-- what holds of each part, and where nothing is legal, holds of the rule
+by-command : (P : Ruled → Type 0) (a command : ℕ) → (command ≡ 0x01 → P (readRow a)) → (command ≡ 0x02 → P (writeRow a))
+    → (command ≡ 0x03 → P (blockOf a)) → P Illegal → P (ruled a command)
+unfolding ruled
+by-command P a command r w b n =
+    by-cond P (eqb command 0x01) _ _ (λ t. r (eqb-true command 0x01 t))
+    (λ _.
+    by-cond P (eqb command 0x02) _ _ (λ t. w (eqb-true command 0x02 t))
+    (λ _. by-cond P (eqb command 0x03) _ _ (λ t. b (eqb-true command 0x03 t)) (λ _. n)))
+
+read-ruled : (a : ℕ) → ruled a 0x01 ≡ readRow a
+unfolding ruled
+read-ruled a = refl
+
+write-ruled : (a : ℕ) → ruled a 0x02 ≡ writeRow a
+unfolding ruled
+write-ruled a = refl
+
+erase-ruled : (a : ℕ) → ruled a 0x03 ≡ blockOf a
+unfolding ruled
+erase-ruled a = refl
+
 -- the cells of a legal command lie in its memory, above the rim in FLASH
 pub ruled-within : (a command : ℕ) → Within (cellsOf command) a (ruled a command)
-unfolding ruled
 ruled-within a command =
-    by-cond (Within (cellsOf command) a) (eqb command 0x01) _ _
-    (λ t. rw (eqb-true command 1 t) (row-within a))
-    (λ _.
-    by-cond (Within (cellsOf command) a) (eqb command 0x02) _ _
-    (λ t. rw (eqb-true command 2 t) (row-within a))
-    (λ _.
-    by-cond (Within (cellsOf command) a) (eqb command 0x03) _ _ (λ t. rw (eqb-true command 3 t) (block-within a)) (λ _. tt)))
+    by-command (Within (cellsOf command) a) a command (λ e. rw e (read-within a)) (λ e. rw e (write-within a))
+    (λ e. rw e (block-within a)) tt
 
 -- a legal FLASH command at a: the rule's answer, and where its cells lie
 pub flash-ruled : (a command : ℕ) → legalFlash a command ≡ true → ruled a command ≡ inFlash a
@@ -91,54 +168,36 @@ eeprom-within a command h =
 
 -- EEPROM has no erase
 pub no-eeprom-erase : (a : ℕ) → legalEeprom a 0x03 ≡ false
-unfolding ruled
-no-eeprom-erase a = by-cond (λ (r : Ruled). isEeprom r ≡ false) (multipleIn 64 rim lastBlock a) _ _ (λ _. refl) (λ _. refl)
+no-eeprom-erase a = rw (erase-ruled a) (no-eeprom-block a)
 
 -- the eight rows of a block that may be erased may be written
 pub block-rows : (a i : ℕ) → legalFlash a 0x03 ≡ true → i < 8 → legalFlash (a + 8 * i) 0x02 ≡ true
-unfolding ruled
-block-rows a i h l =
-    let m = go (multipleIn 64 rim lastBlock a) refl h in
-    rw (in-multiple 8 rim lastFlashRow (a + 8 * i) (omega arith) (omega arith) (omega arith)) refl
-  where
-    go : (b : Bool) → multipleIn 64 rim lastBlock a ≡ b → isFlash (cond b (inFlash a) Illegal) ≡ true
-        → (rim ≤ a) × (a ≤ lastBlock) × (a % 64 ≡ 0)
-    go true e t = multiple-in 64 rim lastBlock a e
-    go false e t = absurd (false≢true t)
+block-rows a i h l = rw (write-ruled (a + 8 * i)) (block-writable a i (rw (erase-ruled a) at h) l)
 
 -- what may be written or erased may be read
 pub flash-readable : (a command : ℕ) → legalFlash a command ≡ true → legalFlash a 0x01 ≡ true
-unfolding ruled
-flash-readable a command h = go (eqb command 0x01) (eqb command 0x02) (eqb command 0x03) h
-  where
-    block : (b : Bool) → multipleIn 64 rim lastBlock a ≡ b → isFlash (cond b (inFlash a) Illegal) ≡ true
-        → isFlash (rowOf a) ≡ true
-    block true e t =
-        let m = multiple-in 64 rim lastBlock a e in
-        rw (in-multiple 8 rim lastFlashRow a (omega arith) (omega arith) (omega arith)) refl
-    block false e t = absurd (false≢true t)
-
-    go : (x y z : Bool) → isFlash (cond x (rowOf a) (cond y (rowOf a) (cond z (blockOf a) Illegal))) ≡ true
-        → isFlash (rowOf a) ≡ true
-    go true y z t = t
-    go false true z t = t
-    go false false true t = block (multipleIn 64 rim lastBlock a) refl t
-    go false false false t = absurd (false≢true t)
+flash-readable a command =
+    rw (read-ruled a)
+    (by-command (λ (r : Ruled). isFlash r ≡ true → isFlash (readRow a) ≡ true) a command
+    (λ _ t. t) (λ _ t. write-readable a t) (λ _ t. block-readable a t) (λ t. absurd (false≢true t)))
 
 pub eeprom-readable : (a command : ℕ) → legalEeprom a command ≡ true → legalEeprom a 0x01 ≡ true
-unfolding ruled
-eeprom-readable a command h = go (eqb command 0x01) (eqb command 0x02) (eqb command 0x03) h
-  where
-    none : (b : Bool) → isEeprom (cond b (inFlash a) Illegal) ≡ true → isEeprom (rowOf a) ≡ true
-    none true t = absurd (false≢true t)
-    none false t = absurd (false≢true t)
+eeprom-readable a command =
+    rw (read-ruled a)
+    (by-command (λ (r : Ruled). isEeprom r ≡ true → isEeprom (readRow a) ≡ true) a command
+    (λ _ t. t) (λ _ t. eeprom-write-readable a t) (λ _ t. absurd (false≢true (rw (no-eeprom-block a) at t)))
+    (λ t. absurd (false≢true t)))
 
-    go : (x y z : Bool) → isEeprom (cond x (rowOf a) (cond y (rowOf a) (cond z (blockOf a) Illegal))) ≡ true
-        → isEeprom (rowOf a) ≡ true
-    go true y z t = t
-    go false true z t = t
-    go false false true t = none (multipleIn 64 rim lastBlock a) t
-    go false false false t = absurd (false≢true t)
+-- no legal write or erase covers a protected cell
+pub spares-protected : (a command c : ℕ) → legalFlash a command ≡ true → (command ≡ 0x01 → ⊥) → protected c ≡ true
+    → (c < a) ⊎ (a + cellsOf command ≤ c)
+spares-protected a command c h unread p =
+    by-command (λ (r : Ruled). isFlash r ≡ true → (c < a) ⊎ (a + cellsOf command ≤ c)) a command
+    (λ e _. absurd (unread e)) (λ e t. rw e (write-spares a c t p)) (λ e t. rw e (block-spares a c t p)) (λ t. absurd (false≢true t)) h
+
+-- and every other cell of FLASH is covered by one: the write of its row
+pub protected-only : (c : ℕ) → c < 0x010000 → protected c ≡ false → legalFlash (c - c % 8) 0x02 ≡ true
+protected-only c l p = rw (write-ruled (c - c % 8)) (unprotected-writable c l p)
 
 -- the number is 0 exactly where the memory is full and the address legal
 pub zero-numbered : (full legal : Bool) → numbered full legal ≡ 0 → (full ≡ true) × (legal ≡ true)
@@ -148,13 +207,6 @@ zero-numbered false legal e = absurd (suc-ne-zero 0 e)
 
 -- a command that is legal anywhere is read, write or erase
 pub legal-command : (a command : ℕ) → isLegal (ruled a command) ≡ true → (command ≡ 0x01) ⊎ ((command ≡ 0x02) ⊎ (command ≡ 0x03))
-unfolding ruled
-legal-command a command h = go (eqb command 0x01) refl (eqb command 0x02) refl (eqb command 0x03) refl h
-  where
-    go : (x : Bool) → eqb command 0x01 ≡ x → (y : Bool) → eqb command 0x02 ≡ y → (z : Bool) → eqb command 0x03 ≡ z
-        → isLegal (cond x (rowOf a) (cond y (rowOf a) (cond z (blockOf a) Illegal))) ≡ true
-        → (command ≡ 0x01) ⊎ ((command ≡ 0x02) ⊎ (command ≡ 0x03))
-    go true p y q z r t = inl (eqb-true command 0x01 p)
-    go false p true q z r t = inr (inl (eqb-true command 0x02 q))
-    go false p false q true r t = inr (inr (eqb-true command 0x03 r))
-    go false p false q false r t = absurd (false≢true t)
+legal-command a command =
+    by-command (λ (r : Ruled). isLegal r ≡ true → (command ≡ 0x01) ⊎ ((command ≡ 0x02) ⊎ (command ≡ 0x03))) a command
+    (λ e _. inl e) (λ e _. inr (inl e)) (λ e _. inr (inr e)) (λ t. absurd (false≢true t))

@@ -1,7 +1,7 @@
 -- The address rule of document 01: "Legal rows (001, 5.7)". This is the one place where it stands; all else cites its laws.
 use Prim.Native.Nat.{ℕ, _%_}
 use mathlib.Core.Bool.{Bool, true, false, _&&_, cond}
-use lib.Dec.{leb, eqb}
+use lib.Dec.{leb, ltb, eqb}
 use Rattle.memory_address.specs.declared.Address.the-variants.{Flash, Eeprom}
 use Rattle.memory_address.specs.declared.Ruled.{Ruled}
 use Rattle.memory_address.specs.declared.Ruled.the-variants.{Legal, Illegal}
@@ -33,10 +33,18 @@ inFlash a = Legal (Flash (record { 0 = a }))
 abbrev pub inEeprom : ℕ → Ruled
 inEeprom a = Legal (Eeprom (record { 0 = a }))
 
--- "read 0x01 and write 0x02 at multiples of 8, in 0x001000 to 0x00FFF8 or 0xF00000 to 0xF003F8"
+-- a row of either memory
 abbrev pub rowOf : ℕ → Ruled
 rowOf a =
     cond (multipleIn 8 rim lastFlashRow a) (inFlash a) (cond (multipleIn 8 firstEepromRow lastEepromRow a) (inEeprom a) Illegal)
+
+-- "read 0x01 and write 0x02 at multiples of 8, in 0x001000 to 0x00FFF8 or 0xF00000 to 0xF003F8": the row that may be read
+abbrev pub readRow : ℕ → Ruled
+readRow a = rowOf a
+
+-- and the row that may be written
+abbrev pub writeRow : ℕ → Ruled
+writeRow a = rowOf a
 
 -- "Erase 0x03 at multiples of 64 in 0x001000 to 0x00FFC0; EEPROM has none."
 abbrev pub blockOf : ℕ → Ruled
@@ -45,7 +53,11 @@ blockOf a = cond (multipleIn 64 rim lastBlock a) (inFlash a) Illegal
 -- the rule: what a command may work on at a number
 unfoldable pub ruled : ℕ → ℕ → Ruled
 ruled a command =
-    cond (eqb command 0x01) (rowOf a) (cond (eqb command 0x02) (rowOf a) (cond (eqb command 0x03) (blockOf a) Illegal))
+    cond (eqb command 0x01) (readRow a) (cond (eqb command 0x02) (writeRow a) (cond (eqb command 0x03) (blockOf a) Illegal))
+
+-- the cells of FLASH that no legal write or erase covers: those below the rim
+unfoldable pub protected : ℕ → Bool
+protected cell = ltb cell rim
 
 -- whether what the rule says lies in FLASH, or in EEPROM
 abbrev pub isFlash : Ruled → Bool

@@ -17,18 +17,18 @@ abbrev pub eepromNumber : List ℕ → ℕ → ℕ → ℕ
 eepromNumber m p command = numbered (eqb (length m) eepromCells) (legalEeprom p command)
 
 -- what a done command makes of a memory; a refused one leaves it
-abbrev pub where0 : ℕ → List ℕ → List ℕ → List ℕ
-where0 number new old = cond (eqb number 0) new old
+abbrev pub ifDone : ℕ → List ℕ → List ℕ → List ℕ
+ifDone number new old = cond (eqb number 0) new old
 
 -- FLASH after a write of eight bytes at a: the row at a, and nothing else, is what the leaf leaves
 unfoldable pub flashWritten : List ℕ → ℕ → List ℕ → List ℕ
-flashWritten m a new = where0 (flashNumber m a 0x02) (patch m a (flashCellsAfter (part m a 8) new)) m
+flashWritten m a new = ifDone (flashNumber m a 0x02) (patch m a (flashCellsAfter (part m a 8) new)) m
 
 -- FLASH after an erase at a: the block at a
 unfoldable pub flashErased : List ℕ → ℕ → List ℕ
-flashErased m a = where0 (flashNumber m a 0x03) (patch m a (erasedCells (part m a 64))) m
+flashErased m a = ifDone (flashNumber m a 0x03) (patch m a (erasedCells (part m a 64))) m
 
 -- EEPROM after a write of eight bytes at place p: the row at p
 unfoldable pub eepromWritten : List ℕ → ℕ → List ℕ → List ℕ
 eepromWritten m p new =
-    where0 (eepromNumber m p 0x02) (patch m (eepromCell p) (eepromCellsAfter (part m (eepromCell p) 8) new)) m
+    ifDone (eepromNumber m p 0x02) (patch m (eepromCell p) (eepromCellsAfter (part m (eepromCell p) 8) new)) m
