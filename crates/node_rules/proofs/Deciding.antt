@@ -1,7 +1,7 @@
 -- The laws of the outcome table, of any list of outcomes and any effect behind it: the first that holds gives the number, a number but 0
 -- says what is decided, and what is shown of each outcome that can hold, and of the effect where none does, holds of what is decided.
 -- Assumes nothing.
-use mathlib.Core.Path.{_≡_, refl}
+use mathlib.Core.Path.{_≡_, refl, sym, subst}
 use mathlib.Core.Bool.{Bool, true, false, cond}
 use mathlib.Core.List.{List, [], _∷_}
 use Prim.Native.Nat.{ℕ}
@@ -17,7 +17,7 @@ use Rattle.node_rules.specs.declared.Found.the-variants.{Handled, Unhand
 use Rattle.node_rules.specs.declared.Node.{Node}
 use Rattle.node_rules.specs.declared.Effect.{Effect}
 use Rattle.node_rules.specs.Requests.{found, stagedIn, doing, asked, askedBy}
-use Rattle.node_rules.specs.Outcomes.{Outcome, refused, firstThat, unless, askedOf}
+use Rattle.node_rules.specs.Outcomes.{Outcome, refused, firstThat, unless, requestOutcomes, typeOutcomes, frameOutcomes, askedOf}
 
 -- the number
 pub unless-number : (os : List Outcome) (e : Effect) → e .number ≡ 0 → unless os e .number ≡ firstThat os
@@ -75,3 +75,41 @@ by-type-zero (Handled k) m f = asked-zero (k .request) m f
 
 pub asked-of-zero : (n : Node) (f : List ℕ) → askedOf n f .number ≡ 0
 asked-of-zero n f = by-type-zero (found (typeOf f)) (n .mode) f
+
+-- what holds of every refusal and of what is asked holds of what is decided
+pub unless-every : (P : Effect → Type 0) (os : List Outcome) (e : Effect) → ((number : ℕ) → P (refused number)) → P e → P (unless os e)
+unless-every P [] e r a = a
+unless-every P (o ∷ os) e r a =
+    by-cond P (o .when) (refused (o .number)) (unless os e) (λ _. r (o .number)) (λ _. unless-every P os e r a)
+
+-- ---- which numbers there are
+
+-- what holds of each number of a list of outcomes
+abbrev pub Among : (ℕ → Type 0) → List Outcome → Type 0
+Among Q [] = Unit {0}
+Among Q (o ∷ os) = Q (o .number) × Among Q os
+
+-- what holds of each number of the list, and of 0, is shown of the number that is decided
+pub among-cases : (Q : ℕ → Type 0) (os : List Outcome) (e : Effect) → Among Q os → e .number ≡ 0 → Q 0
+    → Cases (λ (x : Effect). Q (x .number)) os e
+among-cases Q [] e a z q = subst Q (sym z) q
+among-cases Q (o ∷ os) e a z q = (λ _. a .0, λ _. among-cases Q os e (a .1) z q)
+
+request-among : (Q : ℕ → Type 0) (r : Request) (m : Mode) (f : List ℕ) → Q 8 → Q 9 → Among Q (requestOutcomes r m f)
+request-among Q EnterProgramming m f x y = tt
+request-among Q WaitForRestart m f x y = tt
+request-among Q HardwareType m f x y = tt
+request-among Q FirmwareType m f x y = tt
+request-among Q Description m f x y = tt
+request-among Q DeviceId m f x y = tt
+request-among Q LeaveProgramming m f x y = tt
+request-among Q AddressFrame m f x y = (x, tt)
+request-among Q DataFrame m f x y = (y, tt)
+
+-- a frame's numbers are 4 to 9
+pub frame-among : (Q : ℕ → Type 0) (n : Node) (f : List ℕ) → Q 4 → Q 5 → Q 6 → Q 7 → Q 8 → Q 9 → Among Q (frameOutcomes n f)
+frame-among Q n f q4 q5 q6 q7 q8 q9 = (q4, (q5, go (found (typeOf f))))
+  where
+    go : (k : Found) → Among Q (typeOutcomes k n f)
+    go Unhandled = (q6, tt)
+    go (Handled k) = (q6, (q7, request-among Q (k .request) (n .mode) f q8 q9))

@@ -53,6 +53,11 @@ pub tidy-held : (n : Node) → heldOf (tidied n) ≡ heldOf n
 unfolding tidied
 tidy-held n = held-held (heldOf n) (held-holdable (n .receiver))
 
+-- a tidied record that holds what it holds is as it was
+pub still-held : (n : Node) → holding (tidied n) (heldOf (tidied n)) ≡ tidied n
+unfolding tidied
+still-held n = ap (holding (tidied n)) (held-held (heldOf n) (held-holdable (n .receiver)))
+
 -- a tidied mode is tidy
 staged-twice : (s : Staged) → tidyStaged (tidyStaged s) ≡ tidyStaged s
 staged-twice s = go (legalStaged s) refl
