@@ -4,3 +4,4 @@ pub mod Numbers
 pub mod Spoiling
 pub mod Modes
 pub mod StaysTidy
+pub mod ForOthers
