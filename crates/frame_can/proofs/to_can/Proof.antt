@@ -33,18 +33,24 @@ done c = to-can-done _ _ (sym (c .before .to-can-number .ensures) ∙ c .if1 .ta
 
 to-can-number-requires : tie.Need-to-can-number-requires
 to-can-number-requires c κs = search needs
+
 eight-requires : tie.Need-eight-requires
 eight-requires c κs = search needs
+
 slice-aggregate-copy : tie.Need-slice-aggregate-copy
 slice-aggregate-copy c = search needs
+
 copy-requires : tie.Need-copy-requires
 copy-requires c κs =
     let h = done (c .before .before .before) in
     omega (arith, ap length (c .before .before .eight .ensures))
+
 identifier-of-requires : tie.Need-identifier-of-requires
 identifier-of-requires c κs = search needs
+
 same-length : tie.Need-same-length
 same-length c = search needs
+
 returns : tie.Need-returns
 returns c =
     let k = c .before .before .before in
@@ -56,6 +62,7 @@ returns c =
       identified _ _ _ f (t .before .to-can-number .ensures) (t .if1 .taken) (c .identifier-of .ensures),
       rw (t .if1 .taken) (k .copy .ensures .1 ∙ e ∙ d .ensures ∙ listed-rest f 4 8 (h .1)),
     )
+
 returns-2 : tie.Need-returns-2
 returns-2 c =
     let f = c .before .before .before .before .args .frame .now in

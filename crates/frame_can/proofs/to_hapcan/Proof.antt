@@ -30,26 +30,35 @@ done c = to-hapcan-done _ _ _ (sym (c .before .to-hapcan-number .ensures) ∙ c 
 
 to-hapcan-number-requires : tie.Need-to-hapcan-number-requires
 to-hapcan-number-requires c κs = search needs
+
 eight-requires : tie.Need-eight-requires
 eight-requires c κs = search needs
+
 put-head-requires : tie.Need-put-head-requires
 put-head-requires c κs = let h = done (c .before .before) in omega (arith, leb-true)
+
 slice-aggregate-copy : tie.Need-slice-aggregate-copy
 slice-aggregate-copy c = search needs
+
 sub-copy : tie.Need-sub-copy
 sub-copy c = let h = done (c .before .before .before .before .before .before) in omega arith
+
 part-copy-start : tie.Need-part-copy-start
 part-copy-start c = let h = done (c .before .before .before .before .before .before) in omega arith
+
 part-copy-end : tie.Need-part-copy-end
 part-copy-end c = search needs
+
 copy-requires : tie.Need-copy-requires
 copy-requires c κs =
     let d = c .before .before .before .before .before .before .eight in
     let h = done (c .before .before .before .before .before .before .before) in
     let l = ap length (d .ensures) in
     simp (length-take, length-drop) (omega arith)
+
 same-length : tie.Need-same-length
 same-length c = search needs
+
 returns : tie.Need-returns
 returns c =
     let k = c .before .before .before .before .before .before .before in
@@ -61,6 +70,7 @@ returns c =
     let q = c .before .before .copy .ensures .1 ∙ mix-all (d .result) _ _ refl (simp (length-take, length-drop) (omega arith)) in
     let e = laid (a .identifier) (a .frame .now) (a .«data» .now) _ _ (k .put-head .ensures) (q ∙ d .ensures ∙ listed-all (a .«data» .now) 8 (h .2)) in
     (t .before .to-hapcan-number .ensures, rw (t .if1 .taken) e)
+
 returns-2 : tie.Need-returns-2
 returns-2 c = (c .before .to-hapcan-number .ensures, rw (ne-eqb _ 0 (c .if1 .left)))
 
