@@ -1,4 +1,5 @@
--- `memory_cells::erase_flash` meets its contract: the part lent to the leaf is the block, which lies within the memory where the address is legal.
+-- `memory_cells::erase_flash` meets its contract: the part lent to the leaf is the block, which lies within the memory where
+-- the address is legal.
 -- Assumes nothing.
 use mathlib.Core.Path.{_≡_, _∙_}
 use mathlib.Core.Bool.{true}

@@ -1,4 +1,5 @@
--- `memory_cells::write_eeprom` meets its contract: the part lent to the leaf is the row, which lies within the memory where the address is legal.
+-- `memory_cells::write_eeprom` meets its contract: the part lent to the leaf is the row, which lies within the memory where
+-- the address is legal.
 -- Assumes nothing.
 use mathlib.Core.Path.{_≡_, _∙_}
 use mathlib.Core.Bool.{true}
