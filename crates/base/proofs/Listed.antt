@@ -4,8 +4,8 @@ use mathlib.Core.Path.{_≡_, _∙_, refl, sym, ap, ap₂}
 use mathlib.Core.List.{List, _∷_}
 use Prim.Native.Nat.{ℕ, zero, suc, _+_, _≤_}
 use native.Mathlib.Omega.{arith}
-use lib.ListN.{length, getD, take, drop, replicate, List·getD-eq-default}
-use lib.Seq.{drop-cons, take-length}
+use lib.ListN.{length, getD, take, drop, replicate, length-drop, List·getD-eq-default}
+use lib.Seq.{drop-cons, take-all}
 use Rattle.base.specs.Parts.{part, listed}
 
 pub listed-part : (m : List ℕ) (i k : ℕ) → i + k ≤ length m → listed m i k ≡ part m i k
@@ -14,9 +14,13 @@ listed-part m i (suc k) h =
     ap (λ (t : List ℕ). getD m i 0 ∷ t) (listed-part m (suc i) k (omega arith))
     ∙ ap (λ (t : List ℕ). take (suc k) t) (sym (drop-cons m i 0 (omega arith)))
 
+-- all from i on
+pub listed-rest : (m : List ℕ) (i k : ℕ) → length m ≡ i + k → listed m i k ≡ drop i m
+listed-rest m i k e = listed-part m i k (omega arith) ∙ take-all k (drop i m) (simp length-drop (omega arith))
+
 -- the whole of a list
 pub listed-all : (m : List ℕ) (k : ℕ) → length m ≡ k → listed m 0 k ≡ m
-listed-all m k e = listed-part m 0 k (omega arith) ∙ ap (λ (n : ℕ). take n m) (sym e) ∙ take-length m
+listed-all m k e = listed-rest m 0 k (omega arith)
 
 pub length-listed : (m : List ℕ) (i k : ℕ) → length (listed m i k) ≡ k
 length-listed m i zero = refl

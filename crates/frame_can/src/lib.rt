@@ -1,5 +1,6 @@
 // Conversion between CAN and HAPCAN frames. Each function answers with document 01's number: 0, or a refusal that leaves the lent output
-// as it was. An output of another length than the result is refused first, with 4. What a frame is on UART is defined here, too.
+// as it was. An output of another length than the result is refused first, with 4. Data are read whole before they are written: two lent
+// slices might overlap for all the compiler knows. What a frame is on UART is defined here, too.
 mod convert;
 
 ghost use mathlib.Core.Path.{_≡_};
@@ -21,8 +22,9 @@ pub fn to_hapcan(identifier: u32, data: &[u8], frame: &mut [u8]) -> u8
 {
     let to_hapcan_number = convert::to_hapcan_number(identifier, data, frame.len());
     if to_hapcan_number == 0 {
+        let d = base::eight(data, 0);
         convert::put_head(identifier, frame);
-        bytes::copy(data, &mut frame[4..]);
+        bytes::copy(&d, &mut frame[4..]);
     }
     to_hapcan_number
 }
@@ -35,7 +37,8 @@ pub fn to_can(frame: &[u8], data: &mut [u8]) -> Identified
 {
     let to_can_number = convert::to_can_number(frame, data.len());
     if to_can_number == 0 {
-        bytes::copy(&frame[4..], data);
+        let d = base::eight(frame, 4);
+        bytes::copy(&d, data);
         return Identified {
             number: to_can_number,
             identifier: convert::identifier_of(frame),

@@ -1,5 +1,6 @@
 // UART wrapping of HAPCAN frames. Each function answers with document 01's number: 0, or a refusal that leaves the lent output as it was.
-// An output of another length than the result is refused first, with 4.
+// An output of another length than the result is refused first, with 4. The twelve bytes are read whole before they are written: two
+// lent slices might overlap for all the compiler knows.
 mod slices;
 mod wrapping;
 
@@ -16,10 +17,12 @@ pub fn wrap(frame: &[u8], wrapped: &mut [u8]) -> u8
 {
     let wrap_number = wrapping::wrap_number(frame, wrapped.len());
     if wrap_number == 0 {
+        let sum = slices::sum_of(frame);
+        let inner = slices::twelve(frame);
         wrapped[0] = 0xAA;
-        wrapped[13] = slices::sum_of(frame);
+        wrapped[13] = sum;
         wrapped[14] = 0xA5;
-        bytes::copy(frame, &mut wrapped[1..13]);
+        bytes::copy(&inner, &mut wrapped[1..13]);
     }
     wrap_number
 }
@@ -32,7 +35,9 @@ pub fn unwrap(wrapped: &[u8], frame: &mut [u8]) -> u8
 {
     let unwrap_number = wrapping::unwrap_number(wrapped, frame.len());
     if unwrap_number == 0 {
-        bytes::copy(&wrapped[1..13], frame);
+        let mut inner = [0u8; 12];
+        bytes::copy(&wrapped[1..13], &mut inner);
+        bytes::copy(&inner, frame);
     }
     unwrap_number
 }

@@ -1,7 +1,8 @@
 // What wrapping and unwrapping ask of a whole slice.
 ghost use mathlib.Core.Path.{_≡_};
-ghost use Prim.Native.Nat.{_%_};
-ghost use Rattle.base.specs.Parts.{sumOf};
+ghost use Prim.Native.Nat.{_%_, _≤_};
+ghost use lib.ListN.{length};
+ghost use Rattle.base.specs.Parts.{listed, sumOf};
 ghost use Rattle.frame_can.specs.Wrapping.{rightlyWrapped};
 
 // The sum of the bytes, modulo 256.
@@ -15,6 +16,27 @@ pub fn sum_of(bytes: &[u8]) -> u8
         i += 1;
     }
     sum
+}
+
+// The first twelve bytes.
+pub fn twelve(bytes: &[u8]) -> [u8; 12]
+    requires { ⌜ 12 ≤ length (now bytes) ⌝ }
+    ensures { λ r. ⌜ r ≡ listed (now (bytes .entry)) 0 12 ⌝ }
+{
+    [
+        bytes[0],
+        bytes[1],
+        bytes[2],
+        bytes[3],
+        bytes[4],
+        bytes[5],
+        bytes[6],
+        bytes[7],
+        bytes[8],
+        bytes[9],
+        bytes[10],
+        bytes[11],
+    ]
 }
 
 // Whether these are 15 bytes with a right start, sum and stop.

@@ -20,14 +20,13 @@ pub fn wrap_number(frame: &[u8], room: usize) -> u8
 pub fn unwrap_number(wrapped: &[u8], room: usize) -> u8
     ensures { λ r. ⌜ r ≡ unwrapNumber (now (wrapped .entry)) room ⌝ }
 {
-    let right = slices::rightly_wrapped(wrapped);
     if room != 12 {
         return 4;
     }
     if wrapped.len() != 15 {
         return 4;
     }
-    if !right {
+    if !slices::rightly_wrapped(wrapped) {
         return 11;
     }
     0

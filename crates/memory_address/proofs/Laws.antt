@@ -15,7 +15,9 @@ use Rattle.base.proofs.Choice.{by-cond, both-true, true-both}
 use Rattle.memory_address.specs.declared.Address.the-variants.{Flash, Eeprom}
 use Rattle.memory_address.specs.declared.Ruled.{Ruled}
 use Rattle.memory_address.specs.declared.Ruled.the-variants.{Legal, Illegal}
-use Rattle.memory_address.specs.Rule.{multipleIn, rim, lastFlashRow, lastBlock, firstEepromRow, lastEepromRow, inFlash, inEeprom, rowOf, readRow, writeRow, blockOf, ruled, protected, isFlash, isEeprom, isLegal, legalFlash, legalEeprom, numbered}
+use Rattle.memory_address.specs.Rule.{multipleIn, rim, lastFlashRow, lastBlock, firstEepromRow, lastEepromRow}
+use Rattle.memory_address.specs.Rule.{inFlash, inEeprom, rowOf, readRow, writeRow, blockOf, ruled, protected}
+use Rattle.memory_address.specs.Rule.{isFlash, isEeprom, isLegal, legalFlash, legalEeprom, numbered}
 
 multiple-in : (step low high a : ℕ) → multipleIn step low high a ≡ true → (low ≤ a) × (a ≤ high) × (a % step ≡ 0)
 multiple-in step low high a e =

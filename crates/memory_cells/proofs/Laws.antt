@@ -5,7 +5,7 @@ use mathlib.Core.Path.{_≡_, _∙_, refl}
 use mathlib.Core.Bool.{true, _&&_}
 use mathlib.Core.List.{List}
 use mathlib.Core.Logic.{_⊎_, ⊎-elim, inl, inr}
-use Prim.Native.Nat.{ℕ, _+_, _-_, _≤_, _<_}
+use Prim.Native.Nat.{ℕ, _+_, _≤_, _<_}
 use native.Mathlib.Omega.{arith}
 use lib.Dec.{eqb, lit<}
 use lib.ListN.{length, getD, replicate}
@@ -176,4 +176,5 @@ pub eeprom-written-done : (m : List ℕ) (p : ℕ) (new : List ℕ) → length m
 unfolding eepromWritten eepromCellsAfter
 eeprom-written-done m p new l h k =
     let w = eeprom-within p 0x02 h in
-    simp (eq-eqb (length m) 1024 l, h, eq-eqb (length (part m (eepromCell p) 8)) 8 (part-length m (eepromCell p) 8 (omega arith)), eq-eqb (length new) 8 k)
+    let c = eepromCell p in
+    simp (eq-eqb (length m) 1024 l, h, eq-eqb (length (part m c 8)) 8 (part-length m c 8 (omega arith)), eq-eqb (length new) 8 k)

@@ -8,7 +8,7 @@ use lib.Dec.{eqb}
 use lib.ListN.{length, length-replicate}
 use borrow.Author.Tests.{eqb-true}
 use Rattle.base.proofs.Choice.{by-cond, both-true}
-use Rattle.memory_cells.specs.Leaves.{combined, flashCellsAfter, eepromCellsAfter, erasedCells}
+use Rattle.memory_cells.specs.Leaves.{flashCellsAfter, eepromCellsAfter, erasedCells}
 use Rattle.memory_cells.proofs.Combined.{length-combined}
 
 pub length-flash-after : (cells new : List ℕ) → length (flashCellsAfter cells new) ≡ length cells

@@ -18,7 +18,9 @@ use memory_address::WRITE;
 // Writes a row of FLASH. 1 where FLASH has another length than 65,536, then 8 where the address is illegal to write; both leave it
 // as it was.
 pub fn write_flash(flash: &mut [u8], at: FlashAddress, new: [u8; 8]) -> u8
-    ensures { λ r. ⌜ (r ≡ flashNumber (now (flash .entry)) (at .0) 0x02) × (now (flash .exit) ≡ flashWritten (now (flash .entry)) (at .0) new) ⌝ }
+    ensures { λ r. ⌜
+        (r ≡ flashNumber (now (flash .entry)) (at .0) 0x02)
+        × (now (flash .exit) ≡ flashWritten (now (flash .entry)) (at .0) new) ⌝ }
 {
     if flash.len() != FLASH_CELLS {
         return 1;
@@ -33,7 +35,9 @@ pub fn write_flash(flash: &mut [u8], at: FlashAddress, new: [u8; 8]) -> u8
 
 // Erases a block of FLASH. 1 and 8 as above.
 pub fn erase_flash(flash: &mut [u8], at: FlashAddress) -> u8
-    ensures { λ r. ⌜ (r ≡ flashNumber (now (flash .entry)) (at .0) 0x03) × (now (flash .exit) ≡ flashErased (now (flash .entry)) (at .0)) ⌝ }
+    ensures { λ r. ⌜
+        (r ≡ flashNumber (now (flash .entry)) (at .0) 0x03)
+        × (now (flash .exit) ≡ flashErased (now (flash .entry)) (at .0)) ⌝ }
 {
     if flash.len() != FLASH_CELLS {
         return 1;
@@ -48,7 +52,9 @@ pub fn erase_flash(flash: &mut [u8], at: FlashAddress) -> u8
 
 // Writes a row of EEPROM. 1 where EEPROM has another length than 1,024, then 8 where the place is illegal to write.
 pub fn write_eeprom(eeprom: &mut [u8], place: EepromPlace, new: [u8; 8]) -> u8
-    ensures { λ r. ⌜ (r ≡ eepromNumber (now (eeprom .entry)) (place .0) 0x02) × (now (eeprom .exit) ≡ eepromWritten (now (eeprom .entry)) (place .0) new) ⌝ }
+    ensures { λ r. ⌜
+        (r ≡ eepromNumber (now (eeprom .entry)) (place .0) 0x02)
+        × (now (eeprom .exit) ≡ eepromWritten (now (eeprom .entry)) (place .0) new) ⌝ }
 {
     if eeprom.len() != EEPROM_CELLS {
         return 1;

@@ -1,14 +1,14 @@
--- `frame_can::to_can` meets its contract: behind a number 0 the output is the data, and else it was not lent on.
+-- `frame_can::to_can` meets its contract: behind a number 0 the output is the eight data bytes, and else it was not lent on.
 -- Assumes nothing.
-use mathlib.Core.Path.{_≡_, _∙_, refl, sym}
-use Prim.Native.Nat.{ℕ, _-_}
+use mathlib.Core.Path.{_≡_, _∙_, refl, sym, ap}
+use Prim.Native.Nat.{ℕ}
 use mathlib.Core.Bool.{false}
 use mathlib.Core.List.{List}
 use native.Mathlib.Omega.{arith}
-use lib.ListN.{length, take, drop, length-take, length-drop}
-use lib.Seq.{take-all}
+use lib.ListN.{length}
 use borrow.Author.Tests.{ne-eqb}
 use Rattle.base.proofs.Stored.{mix-all}
+use Rattle.base.proofs.Listed.{listed-rest}
 use Rattle.frame_can.specs.declared.Identified.{Identified}
 use Rattle.frame_can.specs.Frame.{identifierOf, upperFlags}
 use Rattle.frame_can.specs.Numbers.{identifiedOf}
@@ -34,17 +34,16 @@ done c = to-can-done _ _ (sym (c .before .to-can-number .ensures) ∙ c .if1 .ta
 to-can-number-requires : tie.Need-to-can-number-requires
 to-can-number-requires c κs = search needs
 
-sub-copy : tie.Need-sub-copy
-sub-copy c = let h = done c in omega arith
+eight-requires : tie.Need-eight-requires
+eight-requires c κs = search needs
 
-part-copy-start : tie.Need-part-copy-start
-part-copy-start c = let h = done c in omega arith
-
-part-copy-end : tie.Need-part-copy-end
-part-copy-end c = search needs
+slice-aggregate-copy : tie.Need-slice-aggregate-copy
+slice-aggregate-copy c = search needs
 
 copy-requires : tie.Need-copy-requires
-copy-requires c κs = let h = done (c .before .before) in simp (length-take, length-drop) (omega arith)
+copy-requires c κs =
+    let h = done (c .before .before .before) in
+    omega (arith, ap length (c .before .before .eight .ensures))
 
 identifier-of-requires : tie.Need-identifier-of-requires
 identifier-of-requires c κs = search needs
@@ -55,12 +54,13 @@ same-length c = search needs
 returns : tie.Need-returns
 returns c =
     let k = c .before .before .before in
-    let t = k .before .before .before in
+    let d = k .before .before .before .eight in
+    let t = k .before .before .before .before in
     let f = t .before .before .before .before .args .frame .now in
     let h = done t in
-    let e : take (length f - 4) (drop 4 f) ≡ drop 4 f = take-all (length f - 4) (drop 4 f) (simp length-drop (omega arith)) in (
+    let e = mix-all (d .result) _ _ refl (h .0 ∙ sym (ap length (d .ensures))) in (
       identified _ _ _ f (t .before .to-can-number .ensures) (t .if1 .taken) (c .identifier-of .ensures),
-      rw (t .if1 .taken) (k .copy .ensures .1 ∙ mix-all _ _ _ refl (simp (length-take, length-drop) (omega arith)) ∙ e),
+      rw (t .if1 .taken) (k .copy .ensures .1 ∙ e ∙ d .ensures ∙ listed-rest f 4 8 (h .1)),
     )
 
 returns-2 : tie.Need-returns-2
@@ -73,9 +73,8 @@ to-can-spec =
     tie.close
     (tie.spec
     to-can-number-requires
-    sub-copy
-    part-copy-start
-    part-copy-end
+    eight-requires
+    slice-aggregate-copy
     copy-requires
     identifier-of-requires
     same-length

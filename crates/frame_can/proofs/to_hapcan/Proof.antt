@@ -1,6 +1,6 @@
 -- `frame_can::to_hapcan` meets its contract: behind a number 0 the output is the head and the data, and else it was not lent on.
 -- Assumes nothing.
-use mathlib.Core.Path.{_≡_, _∙_, refl, sym}
+use mathlib.Core.Path.{_≡_, _∙_, refl, sym, ap}
 use mathlib.Core.List.{List, _++_, append-nil}
 use Prim.Native.Nat.{ℕ, _-_}
 use native.Mathlib.Omega.{arith}
@@ -8,6 +8,7 @@ use lib.ListN.{length, take, drop, length-take, length-drop, drop-of-length-le}
 use borrow.Author.Tests.{leb-true, ne-eqb}
 use mathlib.Core.Bool.{true}
 use Rattle.base.proofs.Stored.{mix-all}
+use Rattle.base.proofs.Listed.{listed-all}
 use Rattle.frame_can.specs.Frame.{headOf, hapcanOf, legalIdentifier}
 use Rattle.frame_can.proofs.Done.{to-hapcan-done}
 use borrow.Author.Needs.{needs}
@@ -30,32 +31,44 @@ done c = to-hapcan-done _ _ _ (sym (c .before .to-hapcan-number .ensures) ∙ c 
 to-hapcan-number-requires : tie.Need-to-hapcan-number-requires
 to-hapcan-number-requires c κs = search needs
 
+eight-requires : tie.Need-eight-requires
+eight-requires c κs = search needs
+
 put-head-requires : tie.Need-put-head-requires
-put-head-requires c κs = let h = done (c .before) in omega (arith, leb-true)
+put-head-requires c κs = let h = done (c .before .before) in omega (arith, leb-true)
+
+slice-aggregate-copy : tie.Need-slice-aggregate-copy
+slice-aggregate-copy c = search needs
 
 sub-copy : tie.Need-sub-copy
-sub-copy c = let h = done (c .before .before .before .before) in omega arith
+sub-copy c = let h = done (c .before .before .before .before .before .before) in omega arith
 
 part-copy-start : tie.Need-part-copy-start
-part-copy-start c = let h = done (c .before .before .before .before) in omega arith
+part-copy-start c = let h = done (c .before .before .before .before .before .before) in omega arith
 
 part-copy-end : tie.Need-part-copy-end
 part-copy-end c = search needs
 
 copy-requires : tie.Need-copy-requires
-copy-requires c κs = let h = done (c .before .before .before .before .before) in simp (length-take, length-drop) (omega arith)
+copy-requires c κs =
+    let d = c .before .before .before .before .before .before .eight in
+    let h = done (c .before .before .before .before .before .before .before) in
+    let l = ap length (d .ensures) in
+    simp (length-take, length-drop) (omega arith)
 
 same-length : tie.Need-same-length
 same-length c = search needs
 
 returns : tie.Need-returns
 returns c =
-    let k = c .before .before .before .before .before .before in
-    let t = k .before .before in
+    let k = c .before .before .before .before .before .before .before in
+    let d = k .before .before .eight in
+    let t = k .before .before .before in
     let a = t .before .before .before .before .args in
     let h = done t in
-    let q = c .before .before .copy .ensures .1 ∙ mix-all (a .«data» .now) _ _ refl (simp (length-take, length-drop) (omega arith)) in
-    let e = laid (a .identifier) (a .frame .now) (a .«data» .now) _ _ (k .put-head .ensures) q in
+    let l = ap length (d .ensures) in
+    let q = c .before .before .copy .ensures .1 ∙ mix-all (d .result) _ _ refl (simp (length-take, length-drop) (omega arith)) in
+    let e = laid (a .identifier) (a .frame .now) (a .«data» .now) _ _ (k .put-head .ensures) (q ∙ d .ensures ∙ listed-all (a .«data» .now) 8 (h .2)) in
     (t .before .to-hapcan-number .ensures, rw (t .if1 .taken) e)
 
 returns-2 : tie.Need-returns-2
@@ -66,7 +79,9 @@ to-hapcan-spec =
     tie.close
     (tie.spec
     to-hapcan-number-requires
+    eight-requires
     put-head-requires
+    slice-aggregate-copy
     sub-copy
     part-copy-start
     part-copy-end

@@ -8,6 +8,7 @@ use lib.ListN.{length, take, drop, set, length-set, length-append, length-take, 
 use lib.Seq.{drop-set-add}
 use borrow.Author.Tests.{ne-eqb}
 use Rattle.base.proofs.Stored.{mix-all}
+use Rattle.base.proofs.Listed.{listed-all}
 use Rattle.frame_can.specs.Wrapping.{wrappedOf}
 use Rattle.frame_can.proofs.Done.{wrap-done}
 use borrow.Author.Needs.{needs}
@@ -41,17 +42,23 @@ done c = wrap-done _ _ (sym (c .before .wrap-number .ensures) ∙ c .if1 .taken)
 wrap-number-requires : tie.Need-wrap-number-requires
 wrap-number-requires c κs = search needs
 
-slice-write-wrapped : tie.Need-slice-write-wrapped
-slice-write-wrapped c = let h = done c in omega arith
-
 sum-of-requires : tie.Need-sum-of-requires
 sum-of-requires c κs = search needs
 
+twelve-requires : tie.Need-twelve-requires
+twelve-requires c κs = let h = done (c .before) in omega arith
+
+slice-write-wrapped : tie.Need-slice-write-wrapped
+slice-write-wrapped c = let h = done (c .before .before) in omega arith
+
 slice-write-wrapped-2 : tie.Need-slice-write-wrapped-2
-slice-write-wrapped-2 c = let h = done (c .before) in simp length-set (omega arith)
+slice-write-wrapped-2 c = let h = done (c .before .before) in simp length-set (omega arith)
 
 slice-write-wrapped-3 : tie.Need-slice-write-wrapped-3
-slice-write-wrapped-3 c = let h = done (c .before) in simp length-set (omega arith)
+slice-write-wrapped-3 c = let h = done (c .before .before) in simp length-set (omega arith)
+
+slice-aggregate-copy : tie.Need-slice-aggregate-copy
+slice-aggregate-copy c = search needs
 
 sub-copy : tie.Need-sub-copy
 sub-copy c = search needs
@@ -60,30 +67,34 @@ part-copy-start : tie.Need-part-copy-start
 part-copy-start c = search needs
 
 part-copy-end : tie.Need-part-copy-end
-part-copy-end c = let h = done (c .before) in simp length-set (omega arith)
+part-copy-end c = let h = done (c .before .before .before) in simp length-set (omega arith)
 
 copy-requires : tie.Need-copy-requires
-copy-requires c κs = let h = done (c .before .before) in simp (length-take, length-drop, length-set) (omega arith)
+copy-requires c κs = search needs
 
 same-length : tie.Need-same-length
 same-length c =
     let k = c .before .before in
-    let h = done (k .before .before .before) in
-    let f = k .before .before .before .before .before .before .before .args .frame .now in
-    let q = k .copy .ensures .1 ∙ mix-all f _ _ refl (simp (length-take, length-drop, length-set) (omega arith)) in
-    let m = ap length q ∙ h .1 in
+    let h = done (k .before .before .before .before .before) in
+    let i = k .before .before .before .twelve in
+    let l = ap length (i .ensures) in
+    let q = k .copy .ensures .1 ∙ mix-all (i .result) _ _ refl (simp (length-take, length-drop, length-set) (omega arith)) in
+    let m = ap length q ∙ l in
     simp (length-append, length-take, length-drop, length-set) (omega arith)
 
 returns : tie.Need-returns
 unfolding wrappedOf
 returns c =
     let k = c .before .before in
-    let t = k .before .before .before in
+    let i = k .before .before .before .twelve in
+    let sum = k .before .before .before .before .sum-of in
+    let t = k .before .before .before .before .before in
     let a = t .before .before .before .before .args in
     let h = done t in
-    let sum = k .before .before .sum-of in
-    let q = k .copy .ensures .1 ∙ mix-all (a .frame .now) _ _ refl (simp (length-take, length-drop, length-set) (omega arith)) in
-    let e = laid (a .wrapped .now) (a .frame .now) (k .copy .last .1 .0) 0xAA (sum .result) 0xA5 (h .0) q in
+    let l = ap length (i .ensures) in
+    let q = k .copy .ensures .1 ∙ mix-all (i .result) _ _ refl (simp (length-take, length-drop, length-set) (omega arith)) in
+    let f = q ∙ i .ensures ∙ listed-all (a .frame .now) 12 (h .1) in
+    let e = laid (a .wrapped .now) (a .frame .now) (k .copy .last .1 .0) 0xAA (sum .result) 0xA5 (h .0) f in
     (t .before .wrap-number .ensures, rw (t .if1 .taken) (e ∙ rw (sum .ensures)))
 
 returns-2 : tie.Need-returns-2
@@ -94,10 +105,12 @@ wrap-spec =
     tie.close
     (tie.spec
     wrap-number-requires
-    slice-write-wrapped
     sum-of-requires
+    twelve-requires
+    slice-write-wrapped
     slice-write-wrapped-2
     slice-write-wrapped-3
+    slice-aggregate-copy
     sub-copy
     part-copy-start
     part-copy-end

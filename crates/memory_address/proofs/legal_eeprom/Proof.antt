@@ -20,10 +20,14 @@ enum-told-3 : tie.Need-enum-told-3
 enum-told-3 c = search needs
 
 returns : tie.Need-returns
-returns c = simp (← c .before .before .before .before .before .rule .ensures, c .before .before .before .a .given .1, c .enum-told .given .1)
+returns c =
+    let k = c .before .before .before in
+    simp (← k .before .before .rule .ensures, k .a .given .1, c .enum-told .given .1)
 
 returns-2 : tie.Need-returns-2
-returns-2 c = simp (← c .before .before .before .before .before .rule .ensures, c .before .before .before .a .given .1, c .enum-told2 .given .1)
+returns-2 c =
+    let k = c .before .before .before in
+    simp (← k .before .before .rule .ensures, k .a .given .1, c .enum-told2 .given .1)
 
 returns-3 : tie.Need-returns-3
 returns-3 c = simp (← c .before .before .rule .ensures, c .enum-told3 .given .1)

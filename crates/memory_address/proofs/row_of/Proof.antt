@@ -14,10 +14,14 @@ multiple-in-requires-2 : tie.Need-multiple-in-requires-2
 multiple-in-requires-2 c κs = search needs
 
 returns-2 : tie.Need-returns-2
-returns-2 c = simp (← c .before .before .before .multiple-in .ensures, c .before .before .if1 .left, ← c .before .multiple-in2 .ensures, c .if2 .taken)
+returns-2 c =
+    let k = c .before .before in
+    simp (← k .before .multiple-in .ensures, k .if1 .left, ← c .before .multiple-in2 .ensures, c .if2 .taken)
 
 returns-3 : tie.Need-returns-3
-returns-3 c = simp (← c .before .before .before .multiple-in .ensures, c .before .before .if1 .left, ← c .before .multiple-in2 .ensures, c .if2 .left)
+returns-3 c =
+    let k = c .before .before in
+    simp (← k .before .multiple-in .ensures, k .if1 .left, ← c .before .multiple-in2 .ensures, c .if2 .left)
 
 pub row-of-spec : {M : Type 1} → statement M
 row-of-spec =

@@ -1,8 +1,8 @@
--- `memory_cells::erase_flash` meets its contract: the part lent to the leaf is the block, which lies within the memory where the address is legal.
+-- `memory_cells::erase_flash` meets its contract: the part lent to the leaf is the block, which lies within the memory where
+-- the address is legal.
 -- Assumes nothing.
 use mathlib.Core.Path.{_≡_, _∙_}
 use mathlib.Core.Bool.{true}
-use Prim.Native.Nat.{_-_}
 use native.Mathlib.Nat.{add-sub-cancel-left}
 use native.Mathlib.Omega.{arith}
 use borrow.Author.Tests.{eq-eqb, ne-eqb}
@@ -38,7 +38,9 @@ part-erase-cells-start : tie.Need-part-erase-cells-start
 part-erase-cells-start c = search needs
 
 part-erase-cells-end : tie.Need-part-erase-cells-end
-part-erase-cells-end c = omega (arith, flash-within (c .before .before .before .before .before .args .at .0) 0x03 (rw (c .before .before .legal-flash .ensures) at (c .before .if2 .taken)))
+part-erase-cells-end c =
+    let k = c .before in
+    omega (arith, flash-within (k .before .before .before .before .args .at .0) 0x03 (rw (k .before .legal-flash .ensures) at (k .if2 .taken)))
 
 erase-cells-requires : tie.Need-erase-cells-requires
 erase-cells-requires c κs = search needs
@@ -49,9 +51,11 @@ same-length c = search needs
 returns-2 : tie.Need-returns-2
 unfolding flashErased
 returns-2 c =
-    let m = c .before .before .before .before .before .before .before .before .before .args .flash .now in
-    let a = c .before .before .before .before .before .before .before .before .before .args .at .0 in
-    let legal : legalFlash a 0x03 ≡ true = rw (c .before .before .before .before .before .before .legal-flash .ensures) at (c .before .before .before .before .before .if2 .taken) in
+    let k = c .before .before .before .before .before in
+    let args = k .before .before .before .before .args in
+    let m = args .flash .now in
+    let a = args .at .0 in
+    let legal : legalFlash a 0x03 ≡ true = rw (k .before .legal-flash .ensures) at (k .if2 .taken) in
     let w = flash-within a 0x03 legal in
     let full : length m ≡ 65536 = omega arith in
     let l = part-length m a 64 (omega arith) in (

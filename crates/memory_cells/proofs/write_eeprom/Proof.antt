@@ -1,8 +1,8 @@
--- `memory_cells::write_eeprom` meets its contract: the part lent to the leaf is the row, which lies within the memory where the address is legal.
+-- `memory_cells::write_eeprom` meets its contract: the part lent to the leaf is the row, which lies within the memory where
+-- the address is legal.
 -- Assumes nothing.
 use mathlib.Core.Path.{_≡_, _∙_}
 use mathlib.Core.Bool.{true}
-use Prim.Native.Nat.{_-_}
 use native.Mathlib.Nat.{add-sub-cancel-left}
 use native.Mathlib.Omega.{arith}
 use borrow.Author.Tests.{eq-eqb, ne-eqb}
@@ -27,7 +27,9 @@ legal-eeprom-requires : tie.Need-legal-eeprom-requires
 legal-eeprom-requires c κs = search needs
 
 sub-a : tie.Need-sub-a
-sub-a c = omega (arith, eeprom-within (c .before .before .before .before .before .args .place .0) 0x02 (rw (c .before .before .legal-eeprom .ensures) at (c .before .if2 .taken)))
+sub-a c =
+    let k = c .before in
+    omega (arith, eeprom-within (k .before .before .before .before .args .place .0) 0x02 (rw (k .before .legal-eeprom .ensures) at (k .if2 .taken)))
 
 cast-a : tie.Need-cast-a
 cast-a c = search needs
@@ -42,7 +44,9 @@ part-write-eeprom-cells-start : tie.Need-part-write-eeprom-cells-start
 part-write-eeprom-cells-start c = search needs
 
 part-write-eeprom-cells-end : tie.Need-part-write-eeprom-cells-end
-part-write-eeprom-cells-end c = omega (arith, eeprom-within (c .before .before .before .before .before .args .place .0) 0x02 (rw (c .before .before .legal-eeprom .ensures) at (c .before .if2 .taken)))
+part-write-eeprom-cells-end c =
+    let k = c .before in
+    omega (arith, eeprom-within (k .before .before .before .before .args .place .0) 0x02 (rw (k .before .legal-eeprom .ensures) at (k .if2 .taken)))
 
 slice-aggregate-write-eeprom-cells : tie.Need-slice-aggregate-write-eeprom-cells
 slice-aggregate-write-eeprom-cells c = search needs
@@ -56,17 +60,19 @@ same-length c = search needs
 returns-2 : tie.Need-returns-2
 unfolding eepromWritten
 returns-2 c =
-    let m = c .before .before .before .before .before .before .before .before .before .before .args .eeprom .now in
-    let p = c .before .before .before .before .before .before .before .before .before .before .args .place .0 in
+    let k = c .before .before .before .before .before .before in
+    let args = k .before .before .before .before .args in
+    let m = args .eeprom .now in
+    let p = args .place .0 in
     let a = eepromCell p in
-    let legal : legalEeprom p 0x02 ≡ true = rw (c .before .before .before .before .before .before .before .legal-eeprom .ensures) at (c .before .before .before .before .before .before .if2 .taken) in
+    let legal : legalEeprom p 0x02 ≡ true = rw (k .before .legal-eeprom .ensures) at (k .if2 .taken) in
     let w = eeprom-within p 0x02 legal in
     let full : length m ≡ 1024 = omega arith in
     let l = part-length m a 8 (omega arith) in (
       simp (eq-eqb (length m) 1024 full, legal),
       simp (eq-eqb (length m) 1024 full, legal)
-          (put-back m a 8 _ (eepromCellsAfter (part m a 8) (c .before .before .before .before .before .before .before .before .before .before .args .t3))
-          (c .before .before .write-eeprom-cells .ensures ∙ simp add-sub-cancel-left) (length-eeprom-after (part m a 8) (c .before .before .before .before .before .before .before .before .before .before .args .t3) ∙ l)),
+          (put-back m a 8 _ (eepromCellsAfter (part m a 8) (args .t3))
+          (c .before .before .write-eeprom-cells .ensures ∙ simp add-sub-cancel-left) (length-eeprom-after (part m a 8) (args .t3) ∙ l)),
     )
 
 returns-3 : tie.Need-returns-3

@@ -1,8 +1,8 @@
--- `memory_cells::write_flash` meets its contract: the part lent to the leaf is the row, which lies within the memory where the address is legal.
+-- `memory_cells::write_flash` meets its contract: the part lent to the leaf is the row, which lies within the memory where
+-- the address is legal.
 -- Assumes nothing.
 use mathlib.Core.Path.{_≡_, _∙_}
 use mathlib.Core.Bool.{true}
-use Prim.Native.Nat.{_-_}
 use native.Mathlib.Nat.{add-sub-cancel-left}
 use native.Mathlib.Omega.{arith}
 use borrow.Author.Tests.{eq-eqb, ne-eqb}
@@ -38,7 +38,9 @@ part-write-flash-cells-start : tie.Need-part-write-flash-cells-start
 part-write-flash-cells-start c = search needs
 
 part-write-flash-cells-end : tie.Need-part-write-flash-cells-end
-part-write-flash-cells-end c = omega (arith, flash-within (c .before .before .before .before .before .args .at .0) 0x02 (rw (c .before .before .legal-flash .ensures) at (c .before .if2 .taken)))
+part-write-flash-cells-end c =
+    let k = c .before in
+    omega (arith, flash-within (k .before .before .before .before .args .at .0) 0x02 (rw (k .before .legal-flash .ensures) at (k .if2 .taken)))
 
 slice-aggregate-write-flash-cells : tie.Need-slice-aggregate-write-flash-cells
 slice-aggregate-write-flash-cells c = search needs
@@ -52,16 +54,18 @@ same-length c = search needs
 returns-2 : tie.Need-returns-2
 unfolding flashWritten
 returns-2 c =
-    let m = c .before .before .before .before .before .before .before .before .before .before .args .flash .now in
-    let a = c .before .before .before .before .before .before .before .before .before .before .args .at .0 in
-    let legal : legalFlash a 0x02 ≡ true = rw (c .before .before .before .before .before .before .before .legal-flash .ensures) at (c .before .before .before .before .before .before .if2 .taken) in
+    let k = c .before .before .before .before .before .before in
+    let args = k .before .before .before .before .args in
+    let m = args .flash .now in
+    let a = args .at .0 in
+    let legal : legalFlash a 0x02 ≡ true = rw (k .before .legal-flash .ensures) at (k .if2 .taken) in
     let w = flash-within a 0x02 legal in
     let full : length m ≡ 65536 = omega arith in
     let l = part-length m a 8 (omega arith) in (
       simp (eq-eqb (length m) 65536 full, legal),
       simp (eq-eqb (length m) 65536 full, legal)
-          (put-back m a 8 _ (flashCellsAfter (part m a 8) (c .before .before .before .before .before .before .before .before .before .before .args .t3))
-          (c .before .before .write-flash-cells .ensures ∙ simp add-sub-cancel-left) (length-flash-after (part m a 8) (c .before .before .before .before .before .before .before .before .before .before .args .t3) ∙ l)),
+          (put-back m a 8 _ (flashCellsAfter (part m a 8) (args .t3))
+          (c .before .before .write-flash-cells .ensures ∙ simp add-sub-cancel-left) (length-flash-after (part m a 8) (args .t3) ∙ l)),
     )
 
 returns-3 : tie.Need-returns-3

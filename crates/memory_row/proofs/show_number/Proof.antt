@@ -25,11 +25,15 @@ enum-told-2 c = search needs
 
 returns-3 : tie.Need-returns-3
 unfolding shownNumber
-returns-3 c = simp (eq-eqb _ 65536 (c .before .before .before .before .if1 .left), eq-eqb _ 1024 (c .before .before .before .if2 .left), ← c .before .before .rule .ensures, c .enum-told .given .1)
+returns-3 c =
+    let k = c .before .before in
+    simp (eq-eqb _ 65536 (k .before .before .if1 .left), eq-eqb _ 1024 (k .before .if2 .left), ← k .rule .ensures, c .enum-told .given .1)
 
 returns-4 : tie.Need-returns-4
 unfolding shownNumber
-returns-4 c = simp (eq-eqb _ 65536 (c .before .before .before .before .if1 .left), eq-eqb _ 1024 (c .before .before .before .if2 .left), ← c .before .before .rule .ensures, c .enum-told2 .given .1)
+returns-4 c =
+    let k = c .before .before in
+    simp (eq-eqb _ 65536 (k .before .before .if1 .left), eq-eqb _ 1024 (k .before .if2 .left), ← k .rule .ensures, c .enum-told2 .given .1)
 
 pub show-number-spec : {M : Type 1} → statement M
 show-number-spec =

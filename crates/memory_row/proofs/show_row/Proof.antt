@@ -63,13 +63,18 @@ part-result-start c = search needs
 
 part-result-end : tie.Need-part-result-end
 part-result-end c =
-    omega (arith, lies (c .before .before .before .before .before .before .before .before .before .before .before .before .args .at) _ (sym (c .before .before .before .before .before .before .before .rule .ensures) ∙ c .before .before .before .before .before .cells .given .1 ∙ ap Legal (c .before .before .cells2 .given .1)))
+    let k = c .before .before in
+    let e = sym (k .before .before .before .before .before .rule .ensures) ∙ k .before .before .before .cells .given .1 ∙ ap Legal (k .cells2 .given .1) in
+    omega (arith, lies (k .before .before .before .before .before .before .before .before .before .before .args .at) _ e)
 
 enum-known-cells-3 : tie.Need-enum-known-cells-3
 enum-known-cells-3 c = search needs
 
 sub-a : tie.Need-sub-a
-sub-a c = omega (arith, lies (c .before .before .before .before .before .before .before .before .before .before .before .before .args .at) _ (sym (c .before .before .before .before .before .before .before .rule .ensures) ∙ c .before .before .before .before .before .cells .given .1 ∙ ap Legal (c .before .before .cells3 .given .1)))
+sub-a c =
+    let k = c .before .before in
+    let e = sym (k .before .before .before .before .before .rule .ensures) ∙ k .before .before .before .cells .given .1 ∙ ap Legal (k .cells3 .given .1) in
+    omega (arith, lies (k .before .before .before .before .before .before .before .before .before .before .args .at) _ e)
 
 cast-a-2 : tie.Need-cast-a-2
 cast-a-2 c = search needs
@@ -85,7 +90,9 @@ part-result-start-2 c = search needs
 
 part-result-end-2 : tie.Need-part-result-end-2
 part-result-end-2 c =
-    omega (arith, lies (c .before .before .before .before .before .before .before .before .before .before .before .before .args .at) _ (sym (c .before .before .before .before .before .before .before .rule .ensures) ∙ c .before .before .before .before .before .cells .given .1 ∙ ap Legal (c .before .before .cells3 .given .1)))
+    let k = c .before .before in
+    let e = sym (k .before .before .before .before .before .rule .ensures) ∙ k .before .before .before .cells .given .1 ∙ ap Legal (k .cells3 .given .1) in
+    omega (arith, lies (k .before .before .before .before .before .before .before .before .before .before .args .at) _ e)
 
 enum-told : tie.Need-enum-told
 enum-told c = search needs
@@ -95,22 +102,28 @@ slice-aggregate-result-3 c = search needs
 
 returns-3 : tie.Need-returns-3
 returns-3 c =
-    let f = c .before .before .before .cells2 .given .0 .0 .0 in
-    ap (λ (k : ℕ). take k (drop f (c .before .before .before .before .before .before .before .before .before .before .before .before .before .args .flash .now))) (add-sub-cancel-left f 8)
-    ∙ shown-is (c .before .before .before .before .before .before .before .before .before .before .before .before .before .args .flash .now) (c .before .before .before .before .before .before .before .before .before .before .before .before .before .args .eeprom .now) (c .before .before .before .before .before .before .before .before .before .before .before .before .before .args .at) _ (c .before .before .before .before .before .before .before .before .before .before .if1 .left) (c .before .before .before .before .before .before .before .before .before .if2 .left)
-    (sym (c .before .before .before .before .before .before .before .before .rule .ensures) ∙ c .before .before .before .before .before .before .cells .given .1 ∙ ap Legal (c .before .before .before .cells2 .given .1))
+    let k = c .before .before .before in
+    let args = k .before .before .before .before .before .before .before .before .before .before .args in
+    let f = k .cells2 .given .0 .0 .0 in
+    let q = sym (k .before .before .before .before .before .rule .ensures) ∙ k .before .before .before .cells .given .1 ∙ ap Legal (k .cells2 .given .1) in
+    ap (λ (n : ℕ). take n (drop f (args .flash .now))) (add-sub-cancel-left f 8)
+    ∙ shown-is (args .flash .now) (args .eeprom .now) (args .at) _ (k .before .before .before .before .before .before .before .if1 .left) (k .before .before .before .before .before .before .if2 .left) q
 
 returns-4 : tie.Need-returns-4
 returns-4 c =
-    let e = c .before .before .before .cells3 .given .0 .0 .0 - 0xF00000 in
-    ap (λ (k : ℕ). take k (drop e (c .before .before .before .before .before .before .before .before .before .before .before .before .before .args .eeprom .now))) (add-sub-cancel-left e 8)
-    ∙ shown-is (c .before .before .before .before .before .before .before .before .before .before .before .before .before .args .flash .now) (c .before .before .before .before .before .before .before .before .before .before .before .before .before .args .eeprom .now) (c .before .before .before .before .before .before .before .before .before .before .before .before .before .args .at) _ (c .before .before .before .before .before .before .before .before .before .before .if1 .left) (c .before .before .before .before .before .before .before .before .before .if2 .left)
-    (sym (c .before .before .before .before .before .before .before .before .rule .ensures) ∙ c .before .before .before .before .before .before .cells .given .1 ∙ ap Legal (c .before .before .before .cells3 .given .1))
+    let k = c .before .before .before in
+    let args = k .before .before .before .before .before .before .before .before .before .before .args in
+    let e = k .cells3 .given .0 .0 .0 - 0xF00000 in
+    let q = sym (k .before .before .before .before .before .rule .ensures) ∙ k .before .before .before .cells .given .1 ∙ ap Legal (k .cells3 .given .1) in
+    ap (λ (n : ℕ). take n (drop e (args .eeprom .now))) (add-sub-cancel-left e 8)
+    ∙ shown-is (args .flash .now) (args .eeprom .now) (args .at) _ (k .before .before .before .before .before .before .before .if1 .left) (k .before .before .before .before .before .before .if2 .left) q
 
 returns-5 : tie.Need-returns-5
 returns-5 c =
-    shown-is (c .before .before .before .before .before .before .before .before .args .flash .now) (c .before .before .before .before .before .before .before .before .args .eeprom .now) (c .before .before .before .before .before .before .before .before .args .at) Illegal (c .before .before .before .before .before .if1 .left) (c .before .before .before .before .if2 .left)
-    (sym (c .before .before .before .rule .ensures) ∙ c .before .enum-told .given .1)
+    let k = c .before .before .before in
+    let args = k .before .before .before .before .before .args in
+    let q = sym (k .rule .ensures) ∙ c .before .enum-told .given .1 in
+    shown-is (args .flash .now) (args .eeprom .now) (args .at) Illegal (k .before .before .if1 .left) (k .before .if2 .left) q
 
 pub show-row-spec : {M : Type 1} → statement M
 show-row-spec =

@@ -43,7 +43,9 @@ loop-again c =
     )
 
 returns : tie.Need-returns Inv-loop μ-loop
-returns c = (c .before .loop .inv .2 ∙ ap sumOf (take-all (c .before .loop .i) (c .before .before .args .s .now) (omega arith)), omega arith)
+returns c =
+    let at = c .before .loop in
+    (at .inv .2 ∙ ap sumOf (take-all (at .i) (c .before .before .args .s .now) (omega arith)), omega arith)
 
 pub sum-of-spec : {M : Type 1} → statement M
 sum-of-spec =

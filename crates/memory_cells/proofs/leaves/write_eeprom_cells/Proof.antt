@@ -42,12 +42,13 @@ loop-less c = omega arith
 
 loop-again : tie.Need-loop-again Inv-loop μ-loop
 loop-again c =
-    let at = c .before .before .loop in (
+    let at = c .before .before .loop in
+    let args = c .before .before .before .before .before .args in (
       omega arith,
       omega arith,
       simp length-set (omega arith),
       omega arith,
-      stored (c .before .before .before .before .before .args .new .now) (c .before .before .before .before .before .args .cells .now) (at .cells) (at .i) _ (at .inv .4) refl (omega arith) (omega arith),
+      stored (args .new .now) (args .cells .now) (at .cells) (at .i) _ (at .inv .4) refl (omega arith) (omega arith),
     )
 
 same-length : tie.Need-same-length Inv-loop μ-loop
