@@ -1,1 +1,3 @@
 pub mod Tidying
+pub mod TidiedOnce
+pub mod Ruling
