@@ -1,3 +1,4 @@
 pub mod Tidying
 pub mod TidiedOnce
 pub mod Ruling
+pub mod Pairs
