@@ -194,7 +194,8 @@ module _ (n : Node) (flash eeprom : List ℕ) (l : length flash ≡ 65536) (k : 
         obeys (writeEeprom a) h (dataTo (n .plate .own .0) (n .plate .group .0) d) (doing (writeEeprom a))
         (decided-write n (Eeprom (record { 0 = a })) d eight)
         ∙ ap
-        (λ (new : List ℕ). showing (writeEeprom a) (listed (eepromWritten eeprom a new) (eepromCell a) 8) flash (eepromWritten eeprom a new))
+        (λ (new : List ℕ). showing (writeEeprom a) (listed (eepromWritten eeprom a new) (eepromCell a) 8) flash
+        (eepromWritten eeprom a new))
         (listed-all d 8 eight)
         ∙ ap (λ (cells : List ℕ). showing (writeEeprom a) cells flash (eepromWritten eeprom a d))
         (listed-part (eepromWritten eeprom a d) (eepromCell a) 8 (omega arith) ∙ eeprom-row eeprom a d k h eight)

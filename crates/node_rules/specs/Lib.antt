@@ -6,3 +6,4 @@ pub mod Step
 pub mod Uart
 pub mod Restart
 pub mod Runs
+pub mod Reading
