@@ -6,3 +6,6 @@ pub mod RequestTable
 pub mod Addressed
 pub mod Restarting
 pub mod ProgrammingList
+pub mod PairList
+pub mod Witnesses
+pub mod Reached

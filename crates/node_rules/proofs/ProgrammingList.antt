@@ -71,7 +71,8 @@ patched-listed : (m : List ℕ) (a : ℕ) (new : List ℕ) → a + length new �
 patched-listed m a new fits l =
     let c : (j : ℕ) → j < 8 → getD (patch m a new) (a + j) 0 ≡ getD new j 0 = λ j h. inside-patch m a new fits j (omega arith) in
     eight-listed (patch m a new) a
-    ∙ cc (c 0 (lit< tt), c 1 (lit< tt), c 2 (lit< tt), c 3 (lit< tt), c 4 (lit< tt), c 5 (lit< tt), c 6 (lit< tt), c 7 (lit< tt), add-zero a)
+    ∙ cc
+    (c 0 (lit< tt), c 1 (lit< tt), c 2 (lit< tt), c 3 (lit< tt), c 4 (lit< tt), c 5 (lit< tt), c 6 (lit< tt), c 7 (lit< tt), add-zero a)
 
 -- FLASH after a write: "the old bits and the new bits combined by "and""
 flash-put : (flash : List ℕ) (a d0 d1 d2 d3 d4 d5 d6 d7 : ℕ) → length flash ≡ 65536 → legalFlash a 0x02 ≡ true
