@@ -38,7 +38,7 @@ use Rattle.node_rules.specs.Outcomes.{requestOutcomes, typeOutcomes, fra
 use Rattle.node_rules.specs.Replies.{replying}
 use Rattle.node_rules.specs.Step.{bootflSet, flashAfter, eepromAfter, nodeAfter, done, canStep}
 use Rattle.node_rules.specs.Uart.{viaUart, heldWith, uartOutcomes, heldAfter, heldDecided, uartStep}
-use Rattle.node_rules.specs.Reading.{ByGroup, ByZero, ForOthers, LeftByOthers, emptied, LeftByOthersOnUart}
+use Rattle.node_rules.specs.Others.{ByGroup, ByZero, ForOthers, LeftByOthers, emptied, LeftByOthersOnUart}
 use Rattle.node_rules.proofs.Deciding.{Cases, unless-by}
 
 -- ---- the table's own rule, a test over the whole of it

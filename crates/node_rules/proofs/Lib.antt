@@ -1,7 +1,17 @@
 pub mod Tidying
+pub mod TidiedOnce
 pub mod Deciding
 pub mod Numbers
 pub mod Spoiling
 pub mod Modes
 pub mod StaysTidy
 pub mod ForOthers
+pub mod Addressed
+pub mod Ruling
+pub mod RequestTable
+pub mod ProgrammingList
+pub mod PairList
+pub mod Pairs
+pub mod Restarting
+pub mod Witnesses
+pub mod Reached

@@ -29,7 +29,7 @@ use Rattle.node_rules.specs.Requests.{found, dataIn, asked, askedBy}
 use Rattle.node_rules.specs.Outcomes.{Outcome, canOutcomes, unless, askedOf, decided}
 use Rattle.node_rules.specs.Step.{flashAfter, eepromAfter, done, canStep}
 use Rattle.node_rules.specs.Uart.{heldWith, uartOutcomes, heldDecided, uartStep}
-use Rattle.node_rules.specs.Reading.{ButBootfl}
+use Rattle.node_rules.specs.Others.{ButBootfl}
 use Rattle.node_rules.proofs.Deciding.{unless-every}
 
 -- ---- one memory effect

@@ -6,4 +6,5 @@ pub mod Step
 pub mod Uart
 pub mod Restart
 pub mod Runs
+pub mod Others
 pub mod Reading

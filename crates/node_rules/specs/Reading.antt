@@ -1,54 +1,74 @@
--- Words of the theorems that docs/ANSWERS.md cites: what is the same afterwards, and for whom a frame is.
-use Prim.Native.Nat.{ℕ}
+-- The words of the theorems that docs/ANSWERS.md cites, beside those of the rules themselves.
+use Prim.Native.Nat.{ℕ, _+_, _*_}
 use mathlib.Core.Path.{_≡_}
-use mathlib.Core.Bool.{true, false}
-use mathlib.Core.List.{List, []}
+use mathlib.Core.List.{List, [], _∷_, _++_}
 use mathlib.Core.Logic.{_⊎_}
-use lib.ListN.{getD}
-use Rattle.memory_address.specs.Places.{eepromCell, bootfl}
-use Rattle.frame_can.specs.Frame.{typeOf, moduleOf, groupOf}
-use Rattle.node_rules.specs.declared.Addressing.the-variants.{AsGroup, AllZero}
-use Rattle.node_rules.specs.declared.Mode.the-variants.{Waiting}
+use lib.Bits.{bitAnd}
+use lib.ListN.{getD, replicate}
+use Rattle.base.specs.Parts.{part, sumOf}
+use Rattle.node_rules.specs.declared.Staged.{Staged}
+use Rattle.node_rules.specs.declared.Mode.the-variants.{Programming}
+use Rattle.node_rules.specs.declared.Plate.{Plate}
 use Rattle.node_rules.specs.declared.Node.{Node}
-use Rattle.node_rules.specs.Record.{holding, withMode}
-use Rattle.node_rules.specs.Requests.{D, areOwn, aModule, aGroup, isFor, isNormal, isProgramming}
-use Rattle.node_rules.specs.Step.{Step, bootflSet}
-use Rattle.node_rules.specs.Uart.{UartStep}
+use Rattle.node_rules.specs.Record.{withMode, tidied}
+use Rattle.node_rules.specs.Step.{Step, canStep}
 
--- FLASH as it was, and each cell of EEPROM but BOOTFL's
-abbrev pub ButBootfl : List ℕ → List ℕ → List ℕ → List ℕ → Type 0
-ButBootfl flash eeprom flash′ eeprom′ =
-    (flash′ ≡ flash) × ((i : ℕ) → (i ≡ eepromCell bootfl → ⊥) → getD eeprom′ i 0 ≡ getD eeprom i 0)
+-- all that a call leaves: the number, how many replies, their 24 bytes, the node, FLASH, EEPROM
+abbrev pub leaves : ℕ → ℕ → List ℕ → Node → List ℕ → List ℕ → Step
+leaves number count replies n flash eeprom =
+    record { answer = record { number = number; count = count; replies = replies; node = n }; flash = flash; eeprom = eeprom }
 
--- a frame in which neither (D2, D3) nor the frame's module and group are the own numbers
-abbrev pub ForOthers : Node → List ℕ → Type 0
-ForOthers n f =
-    (areOwn (n .plate) (aModule (D 2 f)) (aGroup (D 3 f)) ≡ false)
-    × (areOwn (n .plate) (aModule (moduleOf f)) (aGroup (groupOf f)) ≡ false)
+-- done, with this one reply
+abbrev pub repliesWith : List ℕ → Node → List ℕ → List ℕ → Step
+repliesWith reply n flash eeprom = leaves 0 1 (reply ++ replicate 12 0) n flash eeprom
 
--- a group request of this type in normal mode; and 0x010 with 00 00 in programming mode
-abbrev pub ByGroup : ℕ → Node → List ℕ → Type 0
-ByGroup t n f = (typeOf f ≡ t) × (isFor AsGroup (n .plate) f ≡ true) × (isNormal (n .mode) ≡ true)
+-- one frame and then another, to the node and the memories that the first left
+abbrev pub canThen : Step → List ℕ → Step
+canThen s f = canStep (s .answer .node) f (s .flash) (s .eeprom)
 
-abbrev pub ByZero : Node → List ℕ → Type 0
-ByZero n f = (typeOf f ≡ 0x010) × (isFor AllZero (n .plate) f ≡ true) × (isProgramming (n .mode) ≡ true)
+-- a frame with the own numbers: its first two bytes, and D0 to D7
+abbrev pub withOwn : Plate → ℕ → ℕ → List ℕ → List ℕ
+withOwn p b1 b2 d = b1 ∷ b2 ∷ p .own .0 ∷ p .group .0 ∷ d
 
--- what a frame for others leaves: FLASH with no exception; EEPROM but for BOOTFL set to 0x00 by 0x010; the record but for waiting, by that
--- 0x010 or by 0x101; and it is answered only where it is 0x103, 0x105, 0x10D or 0x10F
-abbrev pub LeftByOthers : Node → List ℕ → List ℕ → List ℕ → Step → Type 0
-LeftByOthers n f flash eeprom s =
-    (s .flash ≡ flash)
-    × ((s .eeprom ≡ eeprom) ⊎ ((s .eeprom ≡ bootflSet eeprom 0x00) × ByZero n f))
-    × ((s .answer .node ≡ n) ⊎ ((s .answer .node ≡ withMode n Waiting) × (ByZero n f ⊎ ByGroup 0x101 n f)))
-    × ((s .answer .count ≡ 0) ⊎ (ByGroup 0x103 n f ⊎ (ByGroup 0x105 n f ⊎ (ByGroup 0x10D n f ⊎ ByGroup 0x10F n f))))
+-- eight bytes
+abbrev pub eightOf : ℕ → ℕ → ℕ → ℕ → ℕ → ℕ → ℕ → ℕ → List ℕ
+eightOf d0 d1 d2 d3 d4 d5 d6 d7 = d0 ∷ d1 ∷ d2 ∷ d3 ∷ d4 ∷ d5 ∷ d6 ∷ d7 ∷ []
 
--- on UART the same but for held bytes
-abbrev pub emptied : Node → Node
-emptied n = holding n []
+-- "D0 D1 D2 is the address, high byte first"
+abbrev pub addressOf : ℕ → ℕ → ℕ → ℕ
+addressOf d0 d1 d2 = d0 * 65536 + d1 * 256 + d2
 
-abbrev pub LeftByOthersOnUart : Node → List ℕ → List ℕ → List ℕ → UartStep → Type 0
-LeftByOthersOnUart n f flash eeprom s =
-    (s .flash ≡ flash)
-    × ((s .eeprom ≡ eeprom) ⊎ ((s .eeprom ≡ bootflSet eeprom 0x00) × ByZero n f))
-    × ((emptied (s .answer .node) ≡ emptied n) ⊎ ((emptied (s .answer .node) ≡ emptied (withMode n Waiting)) × (ByZero n f ⊎ ByGroup 0x101 n f)))
-    × ((s .answer .count ≡ 0) ⊎ (ByGroup 0x103 n f ⊎ (ByGroup 0x105 n f ⊎ (ByGroup 0x10D n f ⊎ ByGroup 0x10F n f))))
+-- 0x030 with D0 to D7: "Legal: staged, D0 to D7 echoed."
+abbrev pub Stages : Node → List ℕ → Staged → List ℕ → List ℕ → Type 0
+Stages n d c flash eeprom =
+    canStep n (withOwn (n .plate) 0x03 0x00 d) flash eeprom
+    ≡ repliesWith (withOwn (n .plate) 0x03 0x01 d) (withMode (tidied n) (Programming c)) flash eeprom
+
+-- the eight cells from a on
+abbrev pub eightAt : List ℕ → ℕ → List ℕ
+eightAt m a =
+    eightOf (getD m a 0) (getD m (a + 1) 0) (getD m (a + 2) 0) (getD m (a + 3) 0) (getD m (a + 4) 0) (getD m (a + 5) 0)
+    (getD m (a + 6) 0) (getD m (a + 7) 0)
+
+-- "in each cell the old bits and the new bits combined by "and""
+abbrev pub eightAnd : List ℕ → ℕ → ℕ → ℕ → ℕ → ℕ → ℕ → ℕ → ℕ → ℕ → List ℕ
+eightAnd m a d0 d1 d2 d3 d4 d5 d6 d7 =
+    eightOf (bitAnd (getD m a 0) d0) (bitAnd (getD m (a + 1) 0) d1) (bitAnd (getD m (a + 2) 0) d2) (bitAnd (getD m (a + 3) 0) d3)
+    (bitAnd (getD m (a + 4) 0) d4) (bitAnd (getD m (a + 5) 0) d5) (bitAnd (getD m (a + 6) 0) d6) (bitAnd (getD m (a + 7) 0) d7)
+
+-- ""Group" means D2 is 0x00 and D3 is 0x00 or the own group; "node" means D2, D3 are the own numbers."
+abbrev pub ToGroup : Plate → ℕ → ℕ → Type 0
+ToGroup p d2 d3 = (d2 ≡ 0x00) × ((d3 ≡ 0x00) ⊎ (d3 ≡ p .group .0))
+
+abbrev pub ToNode : Plate → ℕ → ℕ → Type 0
+ToNode p d2 d3 = (d2 ≡ p .own .0) × (d3 ≡ p .group .0)
+
+-- no number of a list is t
+abbrev pub NoneIs : List ℕ → ℕ → Type 0
+NoneIs [] t = Unit {0}
+NoneIs (x ∷ xs) t = (x ≡ t → ⊥) × NoneIs xs t
+
+-- "stored sum equals firmware sum", by place
+abbrev pub SumsAgree : List ℕ → Type 0
+SumsAgree flash =
+    getD flash 0x001000 0 * 65536 + getD flash 0x001001 0 * 256 + getD flash 0x001002 0 ≡ sumOf (part flash 0x001003 28669)

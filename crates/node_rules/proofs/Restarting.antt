@@ -1,0 +1,111 @@
+-- Restart, one theorem a line of its rule: what it leaves in each case, and when firmware is marked started, both ways.
+-- Assumes nothing.
+use mathlib.Core.Path.{_≡_, _∙_, refl, sym, ap}
+use mathlib.Core.Bool.{Bool, true, false, cond}
+use mathlib.Core.List.{List}
+use mathlib.Core.Logic.{_⊎_, inl, inr}
+use Prim.Native.Nat.{ℕ, _+_, _*_}
+use lib.Dec.{eqb}
+use lib.ListN.{length, getD, replicate}
+use borrow.Author.Tests.{eq-eqb, ne-eqb}
+use Rattle.memory_sum.specs.Sum.{storedSumOf, starts}
+use Rattle.memory_sum.proofs.Laws.{starts-if, starts-only-if}
+use Rattle.node_rules.specs.declared.Choices.{Choices}
+use Rattle.node_rules.specs.declared.Staged.the-variants.{Nothing}
+use Rattle.node_rules.specs.declared.Mode.the-variants.{Normal, Programming, Error}
+use Rattle.node_rules.specs.declared.Node.{Node}
+use Rattle.node_rules.specs.declared.Restarted.{Restarted}
+use Rattle.node_rules.specs.Record.{tidied}
+use Rattle.node_rules.specs.Restart.{restartedIn, restartStep}
+use Rattle.node_rules.specs.Reading.{SumsAgree}
+use Rattle.node_rules.proofs.Ruling.{sizes-full}
+use Rattle.node_rules.proofs.RequestTable.{and-false, worked-out}
+
+-- "FLASH not 65,536 or EEPROM not 1,024 bytes": 1 and "all unchanged", so nothing that was chosen is taken
+pub restart-refused : (n : Node) (choices : Choices) (passed : Bool) (flash eeprom : List ℕ)
+    → (length flash ≡ 65536 → ⊥) ⊎ (length eeprom ≡ 1024 → ⊥)
+    → restartStep n choices passed flash eeprom ≡ record { number = 1; node = tidied n }
+unfolding restartStep
+restart-refused n choices passed flash eeprom (inl m) = rw (ne-eqb (length flash) 65536 m) refl
+restart-refused n choices passed flash eeprom (inr m) =
+    rw (ne-eqb (length eeprom) 1024 m, and-false (eqb (length flash) 65536)) refl
+
+-- the stored sum of a full FLASH, by place
+pub stored-by-place : (flash : List ℕ) → length flash ≡ 65536
+    → storedSumOf flash ≡ getD flash 0x001000 0 * 65536 + getD flash 0x001001 0 * 256 + getD flash 0x001002 0
+unfolding storedSumOf
+stored-by-place flash l = rw (eq-eqb (length flash) 65536 l) refl
+
+pub agree-starts : (flash : List ℕ) → length flash ≡ 65536 → SumsAgree flash → starts flash ≡ true
+agree-starts flash l e = starts-if flash l (stored-by-place flash l ∙ e ∙ sym (worked-out flash l))
+
+pub starts-agree : (flash : List ℕ) → length flash ≡ 65536 → starts flash ≡ true → SumsAgree flash
+starts-agree flash l e = sym (stored-by-place flash l) ∙ starts-only-if flash e .1 ∙ worked-out flash l
+
+disagree-starts : (flash : List ℕ) → length flash ≡ 65536 → (SumsAgree flash → ⊥) → starts flash ≡ false
+disagree-starts flash l m = go (starts flash) refl
+  where
+    go : (b : Bool) → starts flash ≡ b → b ≡ false
+    go true e = absurd (m (starts-agree flash l e))
+    go false e = refl
+
+module _ (n : Node) (choices : Choices) (flash eeprom : List ℕ) (fl : length flash ≡ 65536) (el : length eeprom ≡ 1024) where
+  -- normal mode, marked or not
+  abbrev normal : Bool → Restarted
+  normal b = record { number = 0; node = restartedIn (Normal b) n choices eeprom }
+
+  -- "Failed self-test: error mode."
+  pub restart-failed : restartStep n choices false flash eeprom ≡ record { number = 0; node = restartedIn Error n choices eeprom }
+  unfolding restartStep
+  restart-failed = rw (sizes-full flash eeprom fl el) refl
+
+  -- "Else BOOTFL 0xFF: programming, nothing staged."
+  pub restart-programming : getD eeprom 0 0 ≡ 0xFF
+      → restartStep n choices true flash eeprom ≡ record { number = 0; node = restartedIn (Programming Nothing) n choices eeprom }
+  unfolding restartStep
+  restart-programming e = rw (sizes-full flash eeprom fl el, eq-eqb (getD eeprom 0 0) 0xFF e) refl
+
+  restart-normal : (getD eeprom 0 0 ≡ 0xFF → ⊥)
+      → restartStep n choices true flash eeprom ≡ record { number = 0; node = restartedIn (Normal (starts flash)) n choices eeprom }
+  unfolding restartStep
+  restart-normal m = rw (sizes-full flash eeprom fl el, ne-eqb (getD eeprom 0 0) 0xFF m) refl
+
+  -- "Else normal, firmware started exactly if stored sum equals firmware sum."
+  pub restart-started : (getD eeprom 0 0 ≡ 0xFF → ⊥) → SumsAgree flash
+      → restartStep n choices true flash eeprom ≡ record { number = 0; node = restartedIn (Normal true) n choices eeprom }
+  restart-started m e =
+      restart-normal m ∙ ap normal (agree-starts flash fl e)
+
+  pub restart-not-started : (getD eeprom 0 0 ≡ 0xFF → ⊥) → (SumsAgree flash → ⊥)
+      → restartStep n choices true flash eeprom ≡ record { number = 0; node = restartedIn (Normal false) n choices eeprom }
+  restart-not-started m d =
+      restart-normal m ∙ ap normal (disagree-starts flash fl d)
+
+  -- own numbers, held bytes, what was chosen and the six bytes of the plate do not hang on the verdict
+  pub restart-copies : (passed : Bool)
+      → (restartStep n choices passed flash eeprom .number ≡ 0)
+      × (restartStep n choices passed flash eeprom .node .plate .own .0 ≡ getD eeprom 0x26 0)
+      × (restartStep n choices passed flash eeprom .node .plate .group .0 ≡ getD eeprom 0x27 0)
+      × (restartStep n choices passed flash eeprom .node .plate .fixed ≡ n .plate .fixed)
+      × (restartStep n choices passed flash eeprom .node .receiver .held ≡ replicate 15 0)
+      × (restartStep n choices passed flash eeprom .node .receiver .count ≡ 0)
+      × (restartStep n choices passed flash eeprom .node .choices ≡ choices)
+  unfolding restartStep
+  restart-copies passed = rw (sizes-full flash eeprom fl el) (refl, refl, refl, refl, refl, refl, refl)
+
+  -- what a restart that reaches normal mode says of the mark
+  marked : (passed b : Bool) → restartStep n choices passed flash eeprom .node .mode ≡ Normal b → b ≡ starts flash
+  unfolding restartStep
+  marked passed b = rw (sizes-full flash eeprom fl el) (go passed (eqb (getD eeprom 0 0) 0xFF))
+    where
+      go : (p t : Bool) → cond p (cond t (Programming Nothing) (Normal (starts flash))) Error ≡ Normal b → b ≡ starts flash
+      go true true e = cc
+      go true false e = cc
+      go false t e = cc
+
+  -- firmware is marked started exactly when a restart reaches normal mode and the sums agree: both ways
+  pub marked-if : (passed b : Bool) → restartStep n choices passed flash eeprom .node .mode ≡ Normal b → SumsAgree flash → b ≡ true
+  marked-if passed b e s = marked passed b e ∙ agree-starts flash fl s
+
+  pub marked-only-if : (passed : Bool) → restartStep n choices passed flash eeprom .node .mode ≡ Normal true → SumsAgree flash
+  marked-only-if passed e = starts-agree flash fl (sym (marked passed true e))
