@@ -1,6 +1,7 @@
-// What every crate may use: a reader that never runs past the end, and the laws of parts, patches, choices and stores.
+// What every crate may use: readers that never run past the end, and the laws of parts, patches, choices and stores.
 ghost use mathlib.Core.Path.{_≡_};
 ghost use lib.ListN.{getD};
+ghost use Rattle.base.specs.Parts.{listed};
 
 // The byte at i, or 0 behind the end.
 pub fn byte_at(s: &[u8], i: usize) -> u8
@@ -10,4 +11,37 @@ pub fn byte_at(s: &[u8], i: usize) -> u8
         return s[i];
     }
     0
+}
+
+// Eight bytes from i on, 0 behind the end.
+pub fn eight(s: &[u8], i: usize) -> [u8; 8]
+    ensures { λ r. ⌜ r ≡ listed (now (s .entry)) i 8 ⌝ }
+{
+    if 8 <= s.len() {
+        if i <= s.len() - 8 {
+            return [
+                s[i],
+                s[i + 1],
+                s[i + 2],
+                s[i + 3],
+                s[i + 4],
+                s[i + 5],
+                s[i + 6],
+                s[i + 7],
+            ];
+        }
+    }
+    if s.len() <= i {
+        return [0; 8];
+    }
+    [
+        s[i],
+        byte_at(s, i + 1),
+        byte_at(s, i + 2),
+        byte_at(s, i + 3),
+        byte_at(s, i + 4),
+        byte_at(s, i + 5),
+        byte_at(s, i + 6),
+        byte_at(s, i + 7),
+    ]
 }
