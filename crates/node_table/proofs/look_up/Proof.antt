@@ -116,21 +116,22 @@ returns-16 : tie.Need-returns-16
 unfolding found handledTypes
 returns-16 c =
     simp (
-    ne-eqb 0x100 (c .before .args .t) (λ e. c .match .rest .0 .0 .0 .0 .0 .0 .0 .0 .0 .0 .0 .0 .0 .0 .1 (sym e)),
-    ne-eqb 0x101 (c .before .args .t) (λ e. c .match .rest .0 .0 .0 .0 .0 .0 .0 .0 .0 .0 .0 .0 .0 .1 (sym e)),
-    ne-eqb 0x102 (c .before .args .t) (λ e. c .match .rest .0 .0 .0 .0 .0 .0 .0 .0 .0 .0 .0 .0 .1 (sym e)),
-    ne-eqb 0x103 (c .before .args .t) (λ e. c .match .rest .0 .0 .0 .0 .0 .0 .0 .0 .0 .0 .0 .1 (sym e)),
-    ne-eqb 0x104 (c .before .args .t) (λ e. c .match .rest .0 .0 .0 .0 .0 .0 .0 .0 .0 .0 .1 (sym e)),
-    ne-eqb 0x105 (c .before .args .t) (λ e. c .match .rest .0 .0 .0 .0 .0 .0 .0 .0 .0 .1 (sym e)),
-    ne-eqb 0x106 (c .before .args .t) (λ e. c .match .rest .0 .0 .0 .0 .0 .0 .0 .0 .1 (sym e)),
-    ne-eqb 0x10D (c .before .args .t) (λ e. c .match .rest .0 .0 .0 .0 .0 .0 .0 .1 (sym e)),
-    ne-eqb 0x10E (c .before .args .t) (λ e. c .match .rest .0 .0 .0 .0 .0 .0 .1 (sym e)),
-    ne-eqb 0x10F (c .before .args .t) (λ e. c .match .rest .0 .0 .0 .0 .0 .1 (sym e)),
-    ne-eqb 0x111 (c .before .args .t) (λ e. c .match .rest .0 .0 .0 .0 .1 (sym e)),
-    ne-eqb 0x010 (c .before .args .t) (λ e. c .match .rest .0 .0 .0 .1 (sym e)),
-    ne-eqb 0x020 (c .before .args .t) (λ e. c .match .rest .0 .0 .1 (sym e)),
-    ne-eqb 0x030 (c .before .args .t) (λ e. c .match .rest .0 .1 (sym e)),
-    ne-eqb 0x040 (c .before .args .t) (λ e. c .match .rest .1 (sym e)))
+      ne-eqb 0x100 (c .before .args .t) (λ e. c .match .rest .0 .0 .0 .0 .0 .0 .0 .0 .0 .0 .0 .0 .0 .0 .1 (sym e)),
+      ne-eqb 0x101 (c .before .args .t) (λ e. c .match .rest .0 .0 .0 .0 .0 .0 .0 .0 .0 .0 .0 .0 .0 .1 (sym e)),
+      ne-eqb 0x102 (c .before .args .t) (λ e. c .match .rest .0 .0 .0 .0 .0 .0 .0 .0 .0 .0 .0 .0 .1 (sym e)),
+      ne-eqb 0x103 (c .before .args .t) (λ e. c .match .rest .0 .0 .0 .0 .0 .0 .0 .0 .0 .0 .0 .1 (sym e)),
+      ne-eqb 0x104 (c .before .args .t) (λ e. c .match .rest .0 .0 .0 .0 .0 .0 .0 .0 .0 .0 .1 (sym e)),
+      ne-eqb 0x105 (c .before .args .t) (λ e. c .match .rest .0 .0 .0 .0 .0 .0 .0 .0 .0 .1 (sym e)),
+      ne-eqb 0x106 (c .before .args .t) (λ e. c .match .rest .0 .0 .0 .0 .0 .0 .0 .0 .1 (sym e)),
+      ne-eqb 0x10D (c .before .args .t) (λ e. c .match .rest .0 .0 .0 .0 .0 .0 .0 .1 (sym e)),
+      ne-eqb 0x10E (c .before .args .t) (λ e. c .match .rest .0 .0 .0 .0 .0 .0 .1 (sym e)),
+      ne-eqb 0x10F (c .before .args .t) (λ e. c .match .rest .0 .0 .0 .0 .0 .1 (sym e)),
+      ne-eqb 0x111 (c .before .args .t) (λ e. c .match .rest .0 .0 .0 .0 .1 (sym e)),
+      ne-eqb 0x010 (c .before .args .t) (λ e. c .match .rest .0 .0 .0 .1 (sym e)),
+      ne-eqb 0x020 (c .before .args .t) (λ e. c .match .rest .0 .0 .1 (sym e)),
+      ne-eqb 0x030 (c .before .args .t) (λ e. c .match .rest .0 .1 (sym e)),
+      ne-eqb 0x040 (c .before .args .t) (λ e. c .match .rest .1 (sym e)),
+    )
 
 pub look-up-spec : {M : Type 1} → statement M
 look-up-spec =
