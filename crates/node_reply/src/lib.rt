@@ -4,6 +4,7 @@ mod reading;
 
 ghost use mathlib.Core.Path.{_≡_};
 ghost use Prim.Native.Nat.{_<_};
+ghost use Rattle.frame_can.specs.Frame.{typeOf};
 ghost use Rattle.memory_address.specs.Places.{eepromCell};
 ghost use Rattle.node_rules.specs.Replies.{replyOf, hasStarted, firmwareReply, descriptionData, cellsAt, oneReply, twoReplies, replying};
 use memory_address::Address;
@@ -75,6 +76,14 @@ fn cells_at(at: Address, flash: &[u8], eeprom: &[u8]) -> [u8; 8]
     }
 }
 
+// One reply to this frame, with its type and these data.
+fn reply_to(p: Plate, frame: &[u8], d: [u8; 8]) -> Replies
+    ensures { λ r. ⌜ r ≡ oneReply (replyOf p (typeOf (now (frame .entry))) d) ⌝ }
+{
+    let t = node_frame::type_of(frame);
+    making::one(p, t, d)
+}
+
 // The replies of an effect to this frame, over the memories as it left them.
 pub fn replies(reply: Reply, n: Node, frame: &[u8], flash: &[u8], eeprom: &[u8]) -> Replies
     ensures { λ r. ⌜ r ≡ replying reply n (now (frame .entry)) (now (flash .entry)) (now (eeprom .entry)) ⌝ }
@@ -82,20 +91,16 @@ pub fn replies(reply: Reply, n: Node, frame: &[u8], flash: &[u8], eeprom: &[u8])
     let plate = n.plate;
     match reply {
         Reply::Silent => making::none(),
-        Reply::Entered => making::one(
+        Reply::Entered => reply_to(
             plate,
-            node_frame::type_of(frame),
+            frame,
             [0xFF, 0xFF, 0x03, 0x04, 0xFF, 0xFF, 0xFF, 0xFF],
         ),
-        Reply::Hardware => making::one(plate, node_frame::type_of(frame), reading::hardware(plate)),
+        Reply::Hardware => reply_to(plate, frame, reading::hardware(plate)),
         Reply::Firmware => firmware(n, node_frame::type_of(frame), flash),
         Reply::Described => describe(plate, node_frame::type_of(frame), eeprom),
-        Reply::Device => making::one(plate, node_frame::type_of(frame), reading::device(plate)),
-        Reply::Echoed => making::one(plate, node_frame::type_of(frame), base::eight(frame, 4)),
-        Reply::Cells(at) => making::one(
-            plate,
-            node_frame::type_of(frame),
-            cells_at(at, flash, eeprom),
-        ),
+        Reply::Device => reply_to(plate, frame, reading::device(plate)),
+        Reply::Echoed => reply_to(plate, frame, base::eight(frame, 4)),
+        Reply::Cells(at) => reply_to(plate, frame, cells_at(at, flash, eeprom)),
     }
 }

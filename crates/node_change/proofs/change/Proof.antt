@@ -35,7 +35,10 @@ same-length : tie.Need-same-length
 same-length c = search needs
 
 returns-2 : tie.Need-returns-2
-returns-2 c = (simp (c .before .before .before .before .before .m .given .1), simp (c .before .before .before .before .before .m .given .1) (c .before .before .set-bootfl .ensures))
+returns-2 c = (
+  simp (c .before .before .before .before .before .m .given .1),
+  simp (c .before .before .before .before .before .m .given .1) (c .before .before .set-bootfl .ensures),
+)
 
 same-length-2 : tie.Need-same-length-2
 same-length-2 c = search needs
@@ -44,13 +47,25 @@ same-length-3 : tie.Need-same-length-3
 same-length-3 c = search needs
 
 returns-3 : tie.Need-returns-3
-returns-3 c = (rw (c .before .before .before .before .before .before .before .before .before .m2 .given .1, ← c .before .before .before .before .before .before .before .eight .ensures) (c .before .before .before .before .put .ensures .0), rw (c .before .before .before .before .before .before .before .before .before .m2 .given .1, ← c .before .before .before .before .before .before .before .eight .ensures) (c .before .before .before .before .put .ensures .1))
+returns-3 c = (
+  rw (
+    c .before .before .before .before .before .before .before .before .before .m2 .given .1,
+    ← c .before .before .before .before .before .before .before .eight .ensures,
+  ) (c .before .before .before .before .put .ensures .0),
+  rw (
+    c .before .before .before .before .before .before .before .before .before .m2 .given .1,
+    ← c .before .before .before .before .before .before .before .eight .ensures,
+  ) (c .before .before .before .before .put .ensures .1),
+)
 
 same-length-4 : tie.Need-same-length-4
 same-length-4 c = search needs
 
 returns-4 : tie.Need-returns-4
-returns-4 c = (simp (c .before .before .before .before .before .m3 .given .1) (c .before .before .erase-flash .ensures .1), simp (c .before .before .before .before .before .m3 .given .1))
+returns-4 c = (
+  simp (c .before .before .before .before .before .m3 .given .1) (c .before .before .erase-flash .ensures .1),
+  simp (c .before .before .before .before .before .m3 .given .1),
+)
 
 pub change-spec : {M : Type 1} → statement M
 change-spec =
