@@ -115,10 +115,12 @@ fn eight(cells: &[u8], from: usize) -> [u8; 8] {
     cells[from..from + 8].try_into().unwrap()
 }
 
-/// The sum of the firmware area.
+/// The sum of the firmware area, in pieces whose sums fit 16 bits, so that many bytes are added at once.
 #[inline(always)]
 fn firmware_sum(flash: &Flash) -> u32 {
-    flash[FIRST_SUMMED..PAST_SUMMED].iter().map(|&cell| cell as u32).sum()
+    let short = |piece: &[u8]| piece.iter().map(|&cell| cell as u16).sum::<u16>() as u32;
+    let (pieces, rest) = flash[FIRST_SUMMED..PAST_SUMMED].as_chunks::<64>();
+    pieces.iter().map(|piece| short(piece)).sum::<u32>() + short(rest)
 }
 
 /// The sum of bytes modulo 256.
@@ -257,10 +259,11 @@ impl Node {
             return quiet(10);
         }
         self.count = 0;
-        let frame: [u8; 12] = self.held[1..13].try_into().unwrap();
-        if byte != STOP || self.held[13] != sum(&frame) {
+        let frame = self.held[1..13].try_into().unwrap();
+        if byte != STOP || self.held[13] != sum(frame) {
             return quiet(11);
         }
+        let frame = *frame;
         self.obey(&frame, flash, eeprom, OnUart(replies))
     }
 
@@ -485,11 +488,11 @@ pub fn unwrap(input: &[u8], frame: &mut [u8]) -> u8 {
     let Ok(input) = <&[u8; 15]>::try_from(input) else {
         return 4;
     };
-    let inner: [u8; 12] = input[1..13].try_into().unwrap();
-    if input[0] != START || input[14] != STOP || input[13] != sum(&inner) {
+    let inner = input[1..13].try_into().unwrap();
+    if input[0] != START || input[14] != STOP || input[13] != sum(inner) {
         return 11;
     }
-    *frame = inner;
+    *frame = *inner;
     0
 }
 
@@ -547,37 +550,41 @@ fn measure(recipe: &[u8]) -> Result<usize, (u8, usize)> {
 #[inline(never)]
 pub fn translate(recipe: &[u8], output: &mut [u8]) -> Result<usize, (u8, usize)> {
     let frames = measure(recipe)?;
-    let Some(output) = output.get_mut(..12 * frames) else {
+    let Some(mut output) = output.get_mut(..12 * frames) else {
         return Err((26, 0));
     };
-    let numbers = [recipe[1], recipe[2]];
+    let head = |kind| u32::from_le_bytes([kind, 0x00, recipe[1], recipe[2]]);
+    let (address_head, data_head) = (head(0x03), head(0x04));
+    // An address frame and a data frame.
+    let put = |pair: &mut [u8; 24], address: u32, command: Command, data: &[u8; 8]| {
+        let place = u32::from_le_bytes((address << 8).to_be_bytes()) as u64;
+        let staging = place | (command as u64) << 40 | 0xFFFF_00FF_FF00_0000;
+        pair[..4].copy_from_slice(&address_head.to_le_bytes());
+        pair[4..12].copy_from_slice(&staging.to_le_bytes());
+        pair[12..16].copy_from_slice(&data_head.to_le_bytes());
+        pair[16..].copy_from_slice(data);
+    };
+    // The recipe is accepted: each item is whole, and there is room for its frames.
     let mut rest = &recipe[3..];
-    let mut room = output.chunks_exact_mut(12);
-    let mut put = |kind: u8, data: [u8; 8]| {
-        if let Some(frame) = room.next() {
-            frame[..4].copy_from_slice(&[kind, 0, numbers[0], numbers[1]]);
-            frame[4..].copy_from_slice(&data);
-        }
-    };
-    let staging = |address: u32, command: Command| {
-        let [_, high, middle, low] = address.to_be_bytes();
-        [high, middle, low, 0xFF, 0xFF, command as u8, 0xFF, 0xFF]
-    };
     while let [kind @ (0x02 | 0x03), high, middle, low, cells @ ..] = rest {
-        let mut address = u32::from_be_bytes([0, *high, *middle, *low]);
-        let length = if *kind == 0x02 { 64 } else { 8 };
+        let address = u32::from_be_bytes([0, *high, *middle, *low]);
         if *kind == 0x02 {
-            put(0x03, staging(address, Command::Erase));
-            put(0x04, [0xFF; 8]);
+            let (body, behind) = cells.split_first_chunk::<64>().unwrap();
+            let (room, left) = output.split_first_chunk_mut::<{ 9 * 24 }>().unwrap();
+            let ([erase, writes @ ..], _) = room.as_chunks_mut() else { unreachable!() };
+            put(erase, address, Command::Erase, &[0xFF; 8]);
+            for (at, (pair, row)) in writes.iter_mut().zip(body.as_chunks().0).enumerate() {
+                put(pair, address + 8 * at as u32, Command::Write, row);
+            }
+            (rest, output) = (behind, left);
+        } else {
+            let (row, behind) = cells.split_first_chunk().unwrap();
+            let (pair, left) = output.split_first_chunk_mut().unwrap();
+            put(pair, address, Command::Write, row);
+            (rest, output) = (behind, left);
         }
-        let (body, behind) = cells.split_at(length);
-        for row in body.chunks_exact(8) {
-            put(0x03, staging(address, Command::Write));
-            put(0x04, row.try_into().unwrap());
-            address += 8;
-        }
-        rest = behind;
     }
-    put(0x02, [0xFF; 8]);
+    output[..4].copy_from_slice(&head(0x02).to_le_bytes());
+    output[4..12].fill(0xFF);
     Ok(frames)
 }
