@@ -76,22 +76,23 @@ def each(set_up, event):
 STAGE = address_frame(FLASH, WRITE)
 PUT = frame(0x040)
 ASK = b'\0\0' + OWN + 4 * b'\0'
+STAGED = dict(staged=WRITE, address=FLASH)
 WRAPPED = wrapped(STAGE)
 
 # Each row: the call, what it is handed, the events.
 ROWS = [
     ('can_frame', '0x030 stages a write', [node()] + TIMES * can(STAGE)),
-    ('can_frame', '0x040 writes FLASH', [node(staged=WRITE, address=FLASH)] + TIMES * can(PUT)),
+    ('can_frame', '0x040 writes FLASH', [node(**STAGED)] + TIMES * can(PUT)),
     ('can_frame', '0x040 writes EEPROM', [node(staged=WRITE, address=EEPROM)] + TIMES * can(PUT)),
     ('can_frame', '0x040 erases', [node(staged=ERASE, address=FLASH)] + TIMES * can(PUT)),
     ('can_frame', '0x040 reads FLASH', [node(staged=READ, address=FLASH)] + TIMES * can(PUT)),
     ('can_frame', '**a frame: 0x030 and 0x040 in turn**', [node()] + TIMES // 2 * can(STAGE, PUT)),
     ('can_frame', 'refused 3 (waiting)', [node(mode=WAITING)] + TIMES * can(STAGE)),
-    ('can_frame', 'refused 4 (upper flag)', [node()] + TIMES * can(frame(0x030, flags=2))),
-    ('can_frame', 'refused 5 (response)', [node()] + TIMES * can(frame(0x030, flags=1))),
-    ('can_frame', 'refused 6 (no such type)', [node()] + TIMES * can(frame(0x050))),
-    ('can_frame', 'refused 6 (type of the other mode)', [node()] + TIMES * can(frame(0x104, ASK))),
-    ('can_frame', 'refused 7 (foreign)', [node()] + TIMES * can(address_frame(FLASH, WRITE, numbers=b'\1\1'))),
+    ('can_frame', 'refused 4 (upper flag)', [node(**STAGED)] + TIMES * can(frame(0x030, flags=2))),
+    ('can_frame', 'refused 5 (response)', [node(**STAGED)] + TIMES * can(frame(0x030, flags=1))),
+    ('can_frame', 'refused 6 (no such type)', [node(**STAGED)] + TIMES * can(frame(0x050))),
+    ('can_frame', 'refused 6 (type of the other mode)', [node(**STAGED)] + TIMES * can(frame(0x104, ASK))),
+    ('can_frame', 'refused 7 (foreign)', [node(**STAGED)] + TIMES * can(address_frame(FLASH, WRITE, numbers=b'\1\1'))),
     ('can_frame', 'refused 8 (illegal address)', [node()] + TIMES * can(address_frame(0x000800, WRITE))),
     ('can_frame', 'refused 9 (nothing staged)', [node()] + TIMES * can(PUT)),
     ('can_frame', '0x104 hardware type', [node(mode=STARTED)] + TIMES * can(frame(0x104, ASK))),
@@ -99,10 +100,10 @@ ROWS = [
     ('uart_byte', 'skipped byte', [node()] + TIMES * uart(b'\0')),
     ('uart_byte', 'refused 2 (CAN only)', [node(pin=0)] + TIMES * uart(b'\xAA')),
     ('uart_byte', 'first byte 0xAA', each(node(), uart(b'\xAA'))),
-    ('uart_byte', 'held byte 8', each(node(held=WRAPPED[:7]), uart(WRAPPED[7:8]))),
-    ('uart_byte', '15th, wrong stop (11)', each(node(held=WRAPPED[:14]), uart(b'\0'))),
+    ('uart_byte', 'held byte 8', each(node(held=WRAPPED[:7], **STAGED), uart(WRAPPED[7:8]))),
+    ('uart_byte', '15th, wrong stop (11)', each(node(held=WRAPPED[:14], **STAGED), uart(b'\0'))),
     ('uart_byte', '15th of 0x030', each(node(held=WRAPPED[:14]), uart(b'\xA5'))),
-    ('uart_byte', '15th of 0x040, a write', each(node(staged=WRITE, address=FLASH, held=wrapped(PUT)[:14]), uart(b'\xA5'))),
+    ('uart_byte', '15th of 0x040, a write', each(node(held=wrapped(PUT)[:14], **STAGED), uart(b'\xA5'))),
     ('uart_byte', '**a byte: of 0x030 and 0x040 in turn**', [node()] + TIMES // 20 * uart(WRAPPED + wrapped(PUT))),
     ('wrap', '12 bytes', TIMES * [record(0x0C, 12, 15, STAGE)]),
     ('unwrap', '15 bytes', TIMES * [record(0x0D, 15, 12, WRAPPED)]),
