@@ -31,15 +31,14 @@ fn part(record: &[u8], at: usize, length: u8) -> &[u8] {
     &record[at..at + length.min(20) as usize]
 }
 
-/// A tidied record as NODE. What means nothing is 0.
+/// A tidied record as NODE. What is staged is 0 where it means nothing.
 fn node_bytes(node: &Node) -> [u8; NODE] {
     let mut bytes = [0; NODE];
     bytes[0] = node.uart as u8;
     bytes[1..7].copy_from_slice(&node.fixed);
     bytes[7..9].copy_from_slice(&node.own);
     bytes[9] = node.count;
-    let held = &node.held[..node.count as usize];
-    bytes[10..10 + held.len()].copy_from_slice(held);
+    bytes[10..24].copy_from_slice(&node.held[..HELD]);
     bytes[24] = node.mode as u8;
     if node.mode == Mode::Programming && node.command != Command::Nothing {
         bytes[25] = node.command as u8;
@@ -60,8 +59,10 @@ fn node_of(b: &[u8]) -> Node {
         2 => Command::Write,
         _ => Command::Nothing,
     };
+    let mut held = [0; 16];
+    held[..HELD].copy_from_slice(&b[10..24]);
     Node {
-        held: b[10..24].try_into().unwrap(),
+        held,
         count: b[9],
         uart: b[0] != 0,
         mode: match b[24] {
@@ -143,7 +144,7 @@ impl Session {
                 line.add(&node_bytes(&self.node));
             }
             0x02 => {
-                let mut replies = [0; 24];
+                let mut replies = [OUTPUT_FILL; 24];
                 let answer = self.node.can_frame(part(b, 2, b[1]), flash, eeprom, &mut replies);
                 self.counts[2 + answer.number as usize] += 1;
                 line = Line::of(&[b[0], answer.number, answer.count]);
@@ -151,7 +152,7 @@ impl Session {
                 line.add(&node_bytes(&self.node));
             }
             0x03 => {
-                let mut replies = [0; 30];
+                let mut replies = [OUTPUT_FILL; 30];
                 let answer = self.node.uart_byte(b[1], flash, eeprom, &mut replies);
                 self.counts[14 + answer.number as usize] += 1;
                 line = Line::of(&[b[0], answer.number, answer.count]);
@@ -295,7 +296,7 @@ fn apply(h: &[u8], recipe: &[u8], output: &mut [u8], out: &mut impl Write) -> io
     let mut answers = 0;
     for frame in output[..12 * count].chunks_exact(12) {
         if h[1] == 0 {
-            let mut replies = [0; 24];
+            let mut replies = [OUTPUT_FILL; 24];
             let answer = node.can_frame(frame, &mut flash, &mut eeprom, &mut replies);
             answers = digest(digest(answers, &[answer.number, answer.count]), &replies);
             continue;
@@ -303,7 +304,7 @@ fn apply(h: &[u8], recipe: &[u8], output: &mut [u8], out: &mut impl Write) -> io
         let mut wrapped = [0; 15];
         wrap(frame, &mut wrapped);
         for byte in wrapped {
-            let mut replies = [0; 30];
+            let mut replies = [OUTPUT_FILL; 30];
             let answer = node.uart_byte(byte, &mut flash, &mut eeprom, &mut replies);
             answers = digest(digest(answers, &[answer.number, answer.count]), &replies);
         }

@@ -1,6 +1,7 @@
 //! The peer: the proved calls once more in plain Rust, written for speed. The record is changed in
 //! place, replies go into a lent buffer, nothing is on the heap, and a refusal returns where it is
-//! known. What it does is held to the proved programs by ./bench: both must print the same.
+//! known. Record and replies come out as the proved promises say, unused room being 0, and ./bench
+//! holds what the peer prints to what the proved programs print.
 //!
 //! Each call is kept apart (`inline(never)`), so that its instructions can be counted; what it calls
 //! is inlined into it.
@@ -22,6 +23,18 @@ const STORED_SUM: usize = 0x1000;
 const FIRST_SUMMED: usize = 0x1003;
 const PAST_SUMMED: usize = 0x8000;
 const ATYPE: usize = 0x1013;
+
+/// What is kept of 16 bytes of which so many count, as two numbers of eight.
+static KEPT: [[u64; 2]; HELD + 1] = {
+    let mut kept = [[0; 2]; HELD + 1];
+    let mut count = 1;
+    while count <= HELD {
+        let bytes = (1u128 << (8 * count)) - 1;
+        kept[count] = [bytes as u64, (bytes >> 64) as u64];
+        count += 1;
+    }
+    kept
+};
 
 type Flash = [u8; FLASH_CELLS];
 type Eeprom = [u8; EEPROM_CELLS];
@@ -46,10 +59,11 @@ pub enum Command {
     Erase,
 }
 
-/// A node's record. A caller may hand in any: each call tidies it. Held bytes behind the count, and
-/// what is staged outside programming mode, mean nothing.
+/// A node's record. A caller may hand in any: each call tidies it. What is staged outside programming
+/// mode means nothing.
 pub struct Node {
-    pub held: [u8; HELD],
+    /// The first `count`, at most 14; 0 behind them.
+    pub held: [u8; 16],
     pub count: u8,
     pub uart: bool,
     pub mode: Mode,
@@ -59,7 +73,7 @@ pub struct Node {
     pub fixed: [u8; 6],
 }
 
-/// The number of document 01, and how many replies stand in the lent buffer.
+/// The number of document 01, and how many replies stand in the lent buffer; 0 behind them.
 pub struct Answer {
     pub number: u8,
     pub count: u8,
@@ -154,7 +168,7 @@ impl Replies for OnUart<'_> {
 impl Node {
     pub fn fresh(fixed: [u8; 6]) -> Node {
         Node {
-            held: [0; HELD],
+            held: [0; 16],
             count: 0,
             uart: false,
             mode: Mode::Waiting,
@@ -166,12 +180,16 @@ impl Node {
     }
 
     /// The record as it counts: an illegal staged command is none, so are too many held bytes and
-    /// held bytes not starting with 0xAA.
+    /// held bytes not starting with 0xAA; unused room is 0.
     #[inline(always)]
     fn tidy(&mut self) {
         if self.count as usize > HELD || self.held[0] != START {
             self.count = 0;
         }
+        let [first, last] = KEPT[self.count as usize];
+        let (low, high) = self.held.split_at_mut(8);
+        low.copy_from_slice(&(u64::from_le_bytes(eight(low, 0)) & first).to_le_bytes());
+        high.copy_from_slice(&(u64::from_le_bytes(eight(high, 0)) & last).to_le_bytes());
         if self.mode == Mode::Programming && ruled(self.address, self.command).is_none() {
             self.command = Command::Nothing;
         }
@@ -187,6 +205,7 @@ impl Node {
         };
         self.uart = uart;
         self.count = 0;
+        self.held = [0; 16];
         self.own = [eeprom[MODULE], eeprom[GROUP]];
         self.command = Command::Nothing;
         self.mode = if !passed {
@@ -214,6 +233,7 @@ impl Node {
         eeprom: &mut [u8],
         replies: &mut [u8; 24],
     ) -> Answer {
+        *replies = [0; 24];
         self.tidy();
         let (Ok(flash), Ok(eeprom)) =
             (<&mut Flash>::try_from(flash), <&mut Eeprom>::try_from(eeprom))
@@ -238,6 +258,7 @@ impl Node {
         eeprom: &mut [u8],
         replies: &mut [u8; 30],
     ) -> Answer {
+        *replies = [0; 30];
         self.tidy();
         let (Ok(flash), Ok(eeprom)) =
             (<&mut Flash>::try_from(flash), <&mut Eeprom>::try_from(eeprom))
@@ -258,12 +279,26 @@ impl Node {
             }
             return quiet(10);
         }
-        self.count = 0;
+        self.complete(byte, flash, eeprom, replies)
+    }
+
+    /// The fifteenth byte. It is apart, so that what it needs costs the other fourteen nothing.
+    #[inline(never)]
+    fn complete(
+        &mut self,
+        byte: u8,
+        flash: &mut Flash,
+        eeprom: &mut Eeprom,
+        replies: &mut [u8; 30],
+    ) -> Answer {
         let frame = self.held[1..13].try_into().unwrap();
-        if byte != STOP || self.held[13] != sum(frame) {
+        let right = byte == STOP && self.held[13] == sum(frame);
+        let frame = *frame;
+        self.count = 0;
+        self.held = [0; 16];
+        if !right {
             return quiet(11);
         }
-        let frame = *frame;
         self.obey(&frame, flash, eeprom, OnUart(replies))
     }
 
