@@ -48,8 +48,8 @@ fn node_bytes(node: &Node) -> [u8; NODE] {
     bytes
 }
 
-/// The record of a hand-in, untidied. A record of the peer has no kind of address beside the number,
-/// so that a number of the other kind is handed in as nothing.
+/// The record of a hand-in, untidied. A record of the peer has no kind of address beside the
+/// number, so that a number of the other kind is handed in as nothing.
 fn node_of(b: &[u8]) -> Node {
     let address = number(b, 27);
     let command = match b[25] {

@@ -3,8 +3,8 @@
 //! known. Record and replies come out as the proved promises say, unused room being 0, and ./bench
 //! holds what the peer prints to what the proved programs print.
 //!
-//! Each call is kept apart (`inline(never)`), so that its instructions can be counted; what it calls
-//! is inlined into it.
+//! Each call is kept apart (`inline(never)`), so that its instructions can be counted; what it
+//! calls is inlined into it.
 
 pub const FLASH_CELLS: usize = 65_536;
 pub const EEPROM_CELLS: usize = 1_024;
@@ -59,8 +59,8 @@ pub enum Command {
     Erase,
 }
 
-/// A node's record. A caller may hand in any: each call tidies it. What is staged outside programming
-/// mode means nothing.
+/// A node's record. A caller may hand in any: each call tidies it. What is staged outside
+/// programming mode means nothing.
 pub struct Node {
     /// The first `count`, at most 14; 0 behind them.
     pub held: [u8; 16],
@@ -129,7 +129,8 @@ fn eight(cells: &[u8], from: usize) -> [u8; 8] {
     cells[from..from + 8].try_into().unwrap()
 }
 
-/// The sum of the firmware area, in pieces whose sums fit 16 bits, so that many bytes are added at once.
+/// The sum of the firmware area, in pieces whose sums fit 16 bits, so that many bytes are added
+/// at once.
 #[inline(always)]
 fn firmware_sum(flash: &Flash) -> u32 {
     let short = |piece: &[u8]| piece.iter().map(|&cell| cell as u16).sum::<u16>() as u32;
@@ -537,8 +538,8 @@ fn address(body: &[u8]) -> u32 {
     u32::from_be_bytes([0, body[0], body[1], body[2]])
 }
 
-/// Walks over a recipe without writing anything; gives how many frames it makes, or why and where it
-/// is refused.
+/// Walks over a recipe without writing anything; gives how many frames it makes, or why and where
+/// it is refused.
 #[inline(always)]
 fn measure(recipe: &[u8]) -> Result<usize, (u8, usize)> {
     let (mut place, mut items, mut frames, mut left) = (0, 0, 0, false);

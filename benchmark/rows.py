@@ -1,8 +1,8 @@
 #!/usr/bin/env python3
 """The rows of one kind: the stream that makes them, and the table of what callgrind counted.
 
-    rows.py streams WORK                    writes WORK/rows and the other streams that ./bench makes of a recipe's bytes
-    rows.py table WORK [COLUMN ..]          prints the table of WORK/COLUMN.*.count*, rattle being the first column
+    rows.py streams WORK            writes the streams that ./bench counts: the rows, restarts, and WORK/recipe on either port
+    rows.py table WORK COLUMN ..    prints the table of WORK/COLUMN.*.count*, Rattle being the first column
 
 The stream has a few hundred equal events for each row, and a restart behind them: before each restart callgrind writes down what it has
 counted since the last one (--dump-before), so that one run gives all the rows. The node is set by handed-in records, so that between two
@@ -14,7 +14,7 @@ TIMES = 400
 OWN = bytes([0x12, 0x34])
 DATA = bytes(range(0x41, 0x49))
 FLASH, EEPROM = 0x002000, 0xF00100
-NORMAL, STARTED, PROGRAMMING, ERROR, WAITING = range(5)
+STARTED, PROGRAMMING, WAITING = 1, 2, 4
 NOTHING, READ, WRITE, ERASE = range(4)
 
 # The aims: how many times the peer's instructions a call may take, with the record by value and without one.
@@ -167,12 +167,11 @@ def cell(work, column, call, kind, at, times):
 def table(work, columns):
     """Prints the table."""
     others = columns[1:]
-    heads = ['Call', 'it is handed', *(HEADS[c] for c in columns), *(f'by the {HEADS[c]}' for c in others)]
+    heads = ['Call', 'it is handed', *(HEADS[c] for c in columns), *(f'Rattle / {HEADS[c]}' for c in others)]
     print('| ' + ' | '.join(heads) + ' |')
     print('|---|---|' + '---:|' * (len(heads) - 2))
-    rows = [(call, what, 'leaves' if call in LEAVES else 'calls', at, sum(e[0] not in (0x05,) for e in events))
+    rows = [(call, what, 'leaves' if call in LEAVES else 'calls', at, sum(event[0] != 0x05 for event in events))
             for at, (call, what, events) in enumerate(ROWS, 1)]
-    above = 0
     for call, what, kind, at, times in rows + [(call, what, run, 0, 0) for call, what, run in RUNS]:
         costs = [cell(work, column, call, kind, at, times) for column in columns]
         ratios = []
@@ -180,10 +179,8 @@ def table(work, columns):
             ratio = costs[0] / cost
             aim = RECORD_BY_VALUE if call in ON_RECORD else LEAF
             mark = ' !' if column == 'peer' and round(ratio, 2) > aim else ''
-            above += bool(mark)
             ratios.append(f'{ratio:.2f}{mark}')
         print(f'| `{call}` | {what} | ' + ' | '.join([f'{cost:,.0f}' for cost in costs] + ratios) + ' |')
-    return above
 
 
 if __name__ == '__main__':
