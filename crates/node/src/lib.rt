@@ -133,7 +133,8 @@ pub fn uart_byte(node: Node, byte: u8, flash: &mut [u8], eeprom: &mut [u8]) -> U
     if !full(flash, eeprom) {
         return port::silent(1, n);
     }
-    let pin = n.choices.pin;
+    let choices = n.choices;
+    let pin = choices.pin;
     if port::is_closed(pin) {
         return port::silent(2, n);
     }
@@ -159,7 +160,6 @@ pub fn uart_byte(node: Node, byte: u8, flash: &mut [u8], eeprom: &mut [u8]) -> U
     let mut frame = [0u8; 12];
     let number = frame_uart::unwrap(&whole, &mut frame);
     if number != 0 {
-        let choices = n.choices;
         let r = port::held_after_bad(choices, whole);
         n.receiver = r;
         return port::silent(11, n);
