@@ -8,10 +8,10 @@ use mathlib.Core.Logic.{_⊎_, ⊎-elim, inl, inr}
 use Prim.Native.Nat.{ℕ, suc, _+_, _-_, _≤_, _<_}
 use native.Mathlib.Nat.{suc-ne-zero}
 use native.Mathlib.Omega.{arith}
-use lib.Dec.{eqb, ltb}
-use lib.ListN.{length, set, replicate, length-append}
+use lib.Dec.{eqb}
+use lib.ListN.{length, set, replicate, length-append, length-replicate}
 use lib.Seq.{set-at}
-use borrow.Author.Tests.{eq-eqb, ne-eqb, lt-ltb, le-ltb, ltb-true, ltb-false}
+use borrow.Author.Tests.{eq-eqb, ne-eqb, lt-ltb, le-ltb}
 use Rattle.base.proofs.Choice.{cond-true, cond-false}
 use Rattle.memory_address.specs.Places.{full}
 use Rattle.frame_can.specs.Wrapping.{innerOf, rightlyWrapped}
@@ -56,6 +56,15 @@ module _ (n t : Node) (b : ℕ) (flash eeprom : List ℕ) (e : t ≡ tidied n) w
       let g : isDeaf (tidied n .mode) ≡ true = rw e at h in
       rw (e, f, d, g) (ap (λ (x : Node). silent 3 x flash eeprom) (sym (still-held n)))
 
+-- ---- the room for held bytes has fifteen
+pub room-of : (n t : Node) → t ≡ tidied n → length (t .receiver .held) ≡ 15
+unfolding tidied
+room-of n t e =
+    let xs = heldOf n in
+    let few = holdable-few xs (held-holdable (n .receiver)) in
+    ap (λ (x : Node). length (x .receiver .held)) e ∙ length-append xs (replicate (15 - length xs) 0)
+    ∙ ap (λ (k : ℕ). length xs + k) (length-replicate {A = ℕ} (15 - length xs) 0) ∙ omega arith
+
 -- ---- an open, running node
 
 -- what the byte gives, where it makes ys held
@@ -83,13 +92,6 @@ held-behind (x ∷ xs) b o = refl
 no-bytes : (xs : List ℕ) → length xs ≡ 0 → xs ≡ []
 no-bytes [] e = refl
 no-bytes (x ∷ xs) e = absurd (suc-ne-zero (length xs) e)
-
-below-or-not : (a b : ℕ) → (a < b) ⊎ (b ≤ a)
-below-or-not a b = go (ltb a b) refl
-  where
-    go : (t : Bool) → ltb a b ≡ t → (a < b) ⊎ (b ≤ a)
-    go true e = inl (ltb-true a b e)
-    go false e = inr (ltb-false a b e)
 
 unwrap-right : (w : List ℕ) → length w ≡ 15 → eqb (unwrapNumber w 12) 0 ≡ rightlyWrapped w
 unfolding unwrapNumber
@@ -152,10 +154,9 @@ module _ (n t : Node) (b : ℕ) (flash eeprom : List ℕ) (e : t ≡ tidied n) (
 
   -- ---- the fifteenth
 
-  module _ (last : t .receiver .count < 14 → ⊥) where
+  module _ (last : 14 ≤ t .receiver .count) where
     fourteen : length xs ≡ 14
-    fourteen =
-        ⊎-elim (λ l. absurd (last (rw counts l))) (λ m. omega (arith, few, m)) (below-or-not (length xs) 14)
+    fourteen = let l : 14 ≤ length xs = rw counts at last in omega (arith, few)
 
     -- the fifteen bytes, and what they give
     whole-is : set (t .receiver .held) 14 b ≡ xs ++ (b ∷ [])
