@@ -13,5 +13,7 @@ pub mod ProgrammingList
 pub mod PairList
 pub mod Pairs
 pub mod Restarting
+pub mod Running
+pub mod Agreement
 pub mod Witnesses
 pub mod Reached

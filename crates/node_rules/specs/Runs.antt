@@ -1,9 +1,12 @@
 -- Calls one after the other, each to the node and the memories that the one before left.
 use Prim.Native.Nat.{ℕ}
-use mathlib.Core.List.{List, [], _∷_}
+use mathlib.Core.Path.{_≡_}
+use mathlib.Core.List.{List, [], _∷_, _++_}
+use lib.ListN.{replicate}
 use Rattle.node_rules.specs.declared.Node.{Node}
 use Rattle.node_rules.specs.Step.{Step, canStep}
-use Rattle.node_rules.specs.Uart.{UartStep, uartStep}
+use Rattle.node_rules.specs.Record.{holding}
+use Rattle.node_rules.specs.Uart.{UartStep, uartStep, silent}
 
 -- what stands between two calls: the node and the two memories
 pub record State : Type 0 where
@@ -37,3 +40,21 @@ behindByte s = state (s .answer .node) (s .flash) (s .eeprom)
 
 abbrev pub bytesIn : List ℕ → State → List UartStep
 bytesIn = stepsOf (λ b s. uartStep (s .node) b (s .flash) (s .eeprom)) behindByte
+
+-- bytes that are held one after the other behind those that are held: each 10, with no reply and memories untouched
+abbrev pub collected : Node → List ℕ → List ℕ → List ℕ → List ℕ → List UartStep
+collected n xs [] flash eeprom = []
+collected n xs (b ∷ bs) flash eeprom =
+    silent 10 (holding n (xs ++ (b ∷ []))) flash eeprom ∷ collected n (xs ++ (b ∷ [])) bs flash eeprom
+
+-- each step is 10, with no reply and memories untouched
+abbrev pub AllTen : List ℕ → List ℕ → List UartStep → Type 0
+AllTen flash eeprom [] = Unit {0}
+AllTen flash eeprom (s ∷ ss) =
+    (s .answer .number ≡ 10) × (s .answer .count ≡ 0) × (s .answer .replies ≡ replicate 30 0) × (s .flash ≡ flash) × (s .eeprom ≡ eeprom)
+    × AllTen flash eeprom ss
+
+-- none of these bytes is 0xAA
+abbrev pub NoStart : List ℕ → Type 0
+NoStart [] = Unit {0}
+NoStart (b ∷ bs) = (b ≡ 0xAA → ⊥) × NoStart bs

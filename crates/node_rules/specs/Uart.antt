@@ -98,3 +98,6 @@ uartStep n b flash eeprom = received (tidied n) b flash eeprom
 -- a number with no reply, and the node
 abbrev pub silentOnUart : ℕ → Node → UartAnswer
 silentOnUart number n = record { number = number; count = 0; replies = replicate 30 0; node = n }
+
+abbrev pub silent : ℕ → Node → List ℕ → List ℕ → UartStep
+silent number n flash eeprom = uartAfter (silentOnUart number n) flash eeprom
