@@ -2,7 +2,7 @@
 -- BOOTFL's apart, it comes to the same. Cell by cell: where an item names it, both hold the last such item's byte; where none does, both
 -- hold what they held, which agreed.
 -- Assumes nothing.
-use mathlib.Core.Path.{_≡_, _∙_, sym, ap, ap₂}
+use mathlib.Core.Path.{_≡_, _∙_, refl, sym, ap, ap₂}
 use mathlib.Core.Bool.{Bool, true, false}
 use mathlib.Core.List.{List, [], _∷_}
 use mathlib.Core.Logic.{_⊎_, inl, inr, ⊎-elim}
@@ -17,9 +17,9 @@ use Rattle.base.proofs.Patched.{inside-patch, elsewhere-patch}
 use Rattle.base.proofs.Choice.{true-or-false}
 use Rattle.memory_address.specs.Places.{flashCells, eepromCells, eepromCell, bootfl}
 use Rattle.recipe.specs.Items.{Item, block, row, Recipe, Legal, LegalItem, LegalItems}
-use Rattle.recipe.specs.Plain.{Memories, plainItem, plainItems, plainly}
+use Rattle.recipe.specs.Plain.{Memories, plainItem, plainItems, plainly, OutsideFlash, OutsideEeprom, Each}
 use Rattle.recipe.proofs.Inside.{block-inside, row-inside}
-use Rattle.recipe.proofs.Plainly.{OutsideFlash, OutsideEeprom, Each, plain-block, plain-row, plain-item-sizes, plain-items-sizes}
+use Rattle.recipe.proofs.Plainly.{plain-block, plain-row, plain-item-sizes, plain-items-sizes}
 
 -- a cell lies below a part, in it, or above it
 where-from : (c a k : ℕ) → ((a ≤ c) × (c < a + k)) ⊎ ((c < a) ⊎ (a + k ≤ c))

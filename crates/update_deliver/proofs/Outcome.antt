@@ -17,7 +17,7 @@ use Rattle.recipe.specs.declared.Translated.{Translated}
 use Rattle.recipe.specs.declared.Translated.the-variants.{Frames, Refused}
 use Rattle.recipe.specs.Frames.{framesOf, joined}
 use Rattle.recipe.specs.Reading.{recipeOf}
-use Rattle.recipe.specs.Translation.{lastly, checked, translated, outputAfter, translatedOutput}
+use Rattle.recipe.specs.Translation.{unlessShort, checked, translated, outputAfter, translatedOutput}
 use Rattle.update_deliver.specs.Delivering.{handed, handedOver, roomFor, left, leftBy, deliverBy, deliverStep}
 
 -- the room lies within the frames, and within the answers at 14 bytes a frame
@@ -37,7 +37,7 @@ accepted-fits input room count = go (checked input)
     short k true e h = let z : _≡_ {A = ℕ} 0 1 = cc in absurd (omega arith)
     short k false e h = let same : k ≡ count = cc in let l = ltb-false room (12 * k) e in omega arith
 
-    go : (t : Translated) → lastly t room ≡ Frames count → 12 * count ≤ room
+    go : (t : Translated) → unlessShort t room ≡ Frames count → 12 * count ≤ room
     go (Refused number place) h = let z : _≡_ {A = ℕ} 0 1 = cc in absurd (omega arith)
     go (Frames k) h = short k (ltb room (12 * k)) refl h
 

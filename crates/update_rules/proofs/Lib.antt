@@ -1,0 +1,5 @@
+pub mod Deliveries
+pub mod Rows
+pub mod Items
+pub mod DemandThree
+pub mod Mirroring

@@ -1,0 +1,3 @@
+pub mod Delivery
+pub mod Mirror
+pub mod Updated
