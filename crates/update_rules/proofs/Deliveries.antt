@@ -101,7 +101,7 @@ choices-after Stays n = refl
 choices-after (Programs s) n = refl
 choices-after Waits n = refl
 
-frame-keeps : (s : State) (f : List ℕ) → SameNode s (behindFrame (stepAt s f))
+pub frame-keeps : (s : State) (f : List ℕ) → SameNode s (behindFrame (stepAt s f))
 unfolding canStep done tidied
 frame-keeps s f =
     let next = decided (tidied (s .node)) (full (s .flash) (s .eeprom)) f .next in

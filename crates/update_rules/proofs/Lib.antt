@@ -3,3 +3,7 @@ pub mod Rows
 pub mod Items
 pub mod DemandThree
 pub mod Mirroring
+pub mod Corollaries
+pub mod Prefixes
+pub mod Interrupted
+pub mod Serially
