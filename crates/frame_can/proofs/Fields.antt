@@ -9,7 +9,8 @@ use native.Mathlib.Omega.{arith}
 use lib.ListN.{length}
 use borrow.Author.Tests.{eq-eqb, eqb-true, le-leb, leb-true, not-false}
 use Rattle.base.proofs.Bytes.{Bytes, byte-of}
-use Rattle.frame_can.specs.Frame.{typeOf, flagsOf, flagOf, moduleOf, groupOf, dataOf, upperFlags, identifierOf, legalIdentifier, typeIn, flagIn, moduleIn, groupIn, headOf, hapcanOf}
+use Rattle.frame_can.specs.Frame.{typeOf, flagsOf, flagOf, moduleOf, groupOf, dataOf, upperFlags, identifierOf}
+use Rattle.frame_can.specs.Frame.{legalIdentifier, typeIn, flagIn, moduleIn, groupIn, headOf, hapcanOf}
 
 module _ (i : ℕ) (d : List ℕ) where
   -- CAN to HAPCAN to CAN gives the identifier back, whatever it is
@@ -49,15 +50,16 @@ module _ (f : List ℕ) (bytes : Bytes f) where
   identifier-legal = omega (arith, le-leb, byte-of f 0 bytes, byte-of f 1 bytes, byte-of f 2 bytes, byte-of f 3 bytes)
 
   -- every field is kept
-  pub identifier-fields : (typeIn (identifierOf f) ≡ typeOf f) × (flagIn (identifierOf f) ≡ flagOf f) × (moduleIn (identifierOf f) ≡ moduleOf f)
-      × (groupIn (identifierOf f) ≡ groupOf f)
+  pub identifier-fields : (typeIn (identifierOf f) ≡ typeOf f) × (flagIn (identifierOf f) ≡ flagOf f)
+      × (moduleIn (identifierOf f) ≡ moduleOf f) × (groupIn (identifierOf f) ≡ groupOf f)
   unfolding identifierOf
   identifier-fields =
       let m = byte-of f 2 bytes in
       let g = byte-of f 3 bytes in
       (omega arith, omega arith, omega arith, omega arith)
 
-four : {a b c e a′ b′ c′ e′ : ℕ} (d : List ℕ) → a ≡ a′ → b ≡ b′ → c ≡ c′ → e ≡ e′ → _≡_ {A = List ℕ} (a ∷ b ∷ c ∷ e ∷ d) (a′ ∷ b′ ∷ c′ ∷ e′ ∷ d)
+four : {a b c e a′ b′ c′ e′ : ℕ} (d : List ℕ) → a ≡ a′ → b ≡ b′ → c ≡ c′ → e ≡ e′
+    → _≡_ {A = List ℕ} (a ∷ b ∷ c ∷ e ∷ d) (a′ ∷ b′ ∷ c′ ∷ e′ ∷ d)
 four d p q r s = cc
 
 -- HAPCAN to CAN to HAPCAN gives the frame back

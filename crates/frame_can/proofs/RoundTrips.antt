@@ -1,5 +1,5 @@
--- One call after another, each whatever its function's real contract allows (`Calls`): both conversions lose nothing, each way round, and no
--- two inputs share an outcome. The same of the definitions is in `Fields`.
+-- One call after another, each whatever its function's real contract allows (`Calls`): both conversions lose nothing, each way round, and
+-- no two inputs share an outcome. The same of the definitions is in `Fields`.
 -- Assumes nothing.
 use mathlib.Core.Path.{_≡_, _∙_, sym, ap}
 use mathlib.Core.List.{List}
@@ -9,7 +9,8 @@ use lib.ListN.{length, length-drop}
 use Rattle.base.proofs.Bytes.{Bytes}
 use Rattle.frame_can.specs.declared.Identified.{Identified}
 use Rattle.frame_can.specs.Frame.{dataOf, identifierOf, legalIdentifier, upperFlags}
-use Rattle.frame_can.proofs.Fields.{hapcan-length, hapcan-data, hapcan-no-upper-flags, hapcan-identifier, identifier-legal, identifier-hapcan, identifier-injective, hapcan-injective}
+use Rattle.frame_can.proofs.Fields.{hapcan-length, hapcan-data, hapcan-no-upper-flags, hapcan-identifier, hapcan-injective}
+use Rattle.frame_can.proofs.Fields.{identifier-legal, identifier-hapcan, identifier-injective}
 use Rattle.frame_can.proofs.Calls.{ToHapcan, ToCan, to-hapcan-gave, to-can-gave, to-hapcan-gives, to-can-gives}
 
 -- CAN to HAPCAN to CAN: number 0, the same identifier and the same data

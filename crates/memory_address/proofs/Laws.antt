@@ -83,16 +83,18 @@ write-readable a t = t
 block-readable : (a : ℕ) → isFlash (blockOf a) ≡ true → isFlash (readRow a) ≡ true
 block-readable a t = write-readable a (let m = block-in a t in in-write a (omega arith) (omega arith) (omega arith))
 
-unprotected-writable : (c : ℕ) → c < 0x010000 → protected c ≡ false → isFlash (writeRow (c - c % 8)) ≡ true
-unfolding protected
-unprotected-writable c l p = let h = ltb-false c rim p in in-write (c - c % 8) (omega arith) (omega arith) (omega arith)
-
 no-eeprom-block : (a : ℕ) → isEeprom (blockOf a) ≡ false
 no-eeprom-block a = by-cond (λ (r : Ruled). isEeprom r ≡ false) (multipleIn 64 rim lastBlock a) _ _ (λ _. refl) (λ _. refl)
 
 eeprom-write-readable : (a : ℕ) → isEeprom (writeRow a) ≡ true → isEeprom (readRow a) ≡ true
 eeprom-write-readable a t = t
 
+-- the paper's number: every cell below 0x001000 is protected
+pub rim-protected : (c : ℕ) → c < 0x001000 → protected c ≡ true
+unfolding protected
+rim-protected c l = lt-ltb c 0x001000 l
+
+-- what may be written or erased covers no protected cell
 write-spares : (a c : ℕ) → isFlash (writeRow a) ≡ true → protected c ≡ true → (c < a) ⊎ (a + 8 ≤ c)
 unfolding protected
 write-spares a c t p = let l = ltb-true c rim p in inl (go (writeRow a) t (write-within a) l)
@@ -106,10 +108,10 @@ block-spares : (a c : ℕ) → isFlash (blockOf a) ≡ true → protected c ≡ 
 unfolding protected
 block-spares a c t p = let m = block-in a t in let l = ltb-true c rim p in inl (omega arith)
 
--- the paper's number: every cell below 0x001000 is protected
-pub rim-protected : (c : ℕ) → c < 0x001000 → protected c ≡ true
+-- and every other cell lies in a row that may be written
+unprotected-writable : (c : ℕ) → c < 0x010000 → protected c ≡ false → isFlash (writeRow (c - c % 8)) ≡ true
 unfolding protected
-rim-protected c l = lt-ltb c 0x001000 l
+unprotected-writable c l p = let h = ltb-false c rim p in in-write (c - c % 8) (omega arith) (omega arith) (omega arith)
 
 -- ---- the rule, by its parts
 

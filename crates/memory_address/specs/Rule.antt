@@ -1,4 +1,5 @@
--- The address rule of document 01: "Legal rows (001, 5.7)". This is the one place where it stands; all else cites its laws.
+-- The address rule of document 01: "Legal rows (001, 5.7)". This is the one place where it stands. Proofs cite its laws, in
+-- proofs/Laws.antt; only examples that are computed open it.
 use Prim.Native.Nat.{ℕ, _%_}
 use mathlib.Core.Bool.{Bool, true, false, _&&_, cond}
 use lib.Dec.{leb, ltb, eqb}

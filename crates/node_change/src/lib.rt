@@ -1,12 +1,13 @@
-// What an action does to the memories: they change here and nowhere else.
+// What an effect does to the memories: they change here and nowhere else.
 ghost use mathlib.Core.Path.{_≡_};
-ghost use Rattle.node_rules.specs.Step.{bootflSet, flashAfter, eepromAfter, flashDone, eepromDone};
+ghost use Rattle.node_rules.specs.Requests.{dataIn};
+ghost use Rattle.node_rules.specs.Step.{bootflSet, flashAfter, eepromAfter};
 use memory_address::Address;
 use memory_address::BOOTFL;
 use memory_address::EEPROM_FIRST;
-use node_rules::Action;
+use node_rules::Memory;
 
-// BOOTFL becomes v.
+// BOOTFL becomes v, where there is a cell for it.
 fn set_bootfl(eeprom: &mut [u8], v: u8)
     ensures { λ _. ⌜ now (eeprom .exit) ≡ bootflSet (now (eeprom .entry)) v ⌝ }
 {
@@ -16,9 +17,10 @@ fn set_bootfl(eeprom: &mut [u8], v: u8)
     }
 }
 
-// A write at either kind of address.
+// A write at either kind of address. A memory of the wrong length, or one written at an illegal address, stays as it is.
 fn put(at: Address, d: [u8; 8], flash: &mut [u8], eeprom: &mut [u8])
-    ensures { λ _. ⌜ (now (flash .exit) ≡ flashAfter at d (now (flash .entry))) × (now (eeprom .exit) ≡ eepromAfter at d (now (eeprom .entry))) ⌝ }
+    ensures { λ _. ⌜ (now (flash .exit) ≡ flashAfter (Memory.Written at) d (now (flash .entry))) ×
+        (now (eeprom .exit) ≡ eepromAfter (Memory.Written at) d (now (eeprom .entry))) ⌝ }
 {
     match at {
         Address::Flash(f) => {
@@ -30,31 +32,21 @@ fn put(at: Address, d: [u8; 8], flash: &mut [u8], eeprom: &mut [u8])
     }
 }
 
-// What an action with these data leaves of the two memories. One of the wrong length stays as it is, but for BOOTFL where there is a
+// What becomes of the two memories, with the data of this frame. One of the wrong length stays as it is, but for BOOTFL where there is a
 // cell for it.
-pub fn change(a: Action, d: [u8; 8], flash: &mut [u8], eeprom: &mut [u8])
-    ensures { λ _. ⌜ (now (flash .exit) ≡ flashDone a d (now (flash .entry))) × (now (eeprom .exit) ≡ eepromDone a d (now (eeprom .entry))) ⌝ }
+pub fn change(m: Memory, frame: &[u8], flash: &mut [u8], eeprom: &mut [u8])
+    ensures { λ _. ⌜ (now (flash .exit) ≡ flashAfter m (dataIn (now (frame .entry))) (now (flash .entry))) ×
+        (now (eeprom .exit) ≡ eepromAfter m (dataIn (now (frame .entry))) (now (eeprom .entry))) ⌝ }
 {
-    match a {
-        Action::Refuse(_) => {}
-        Action::Unstage => {}
-        Action::Enter => {
-            set_bootfl(eeprom, 0xFF);
+    match m {
+        Memory::Kept => {}
+        Memory::Bootfl(v) => {
+            set_bootfl(eeprom, v);
         }
-        Action::Wait => {}
-        Action::Hardware => {}
-        Action::Firmware => {}
-        Action::Describe => {}
-        Action::Device => {}
-        Action::Leave => {
-            set_bootfl(eeprom, 0x00);
+        Memory::Written(at) => {
+            put(at, base::eight(frame, 4), flash, eeprom);
         }
-        Action::Stage(_) => {}
-        Action::Show(_) => {}
-        Action::Put(at) => {
-            put(at, d, flash, eeprom);
-        }
-        Action::Clear(at) => {
+        Memory::Erased(at) => {
             memory_cells::erase_flash(flash, at);
         }
     }

@@ -2,24 +2,17 @@
 ghost use mathlib.Core.Path.{_≡_};
 ghost use mathlib.Core.Bool.{_&&_};
 ghost use lib.Dec.{eqb};
-ghost use Rattle.frame_can.specs.Frame.{typeOf, moduleOf, groupOf};
+ghost use Rattle.frame_can.specs.Frame.{moduleOf, groupOf};
 ghost use Rattle.node_rules.specs.Requests.{areOwn, isFor, isNormal, isProgramming, handledHere};
 ghost use Rattle.node_rules.specs.Outcomes.{misshapen, isResponse};
+use memory_address::Group;
+use memory_address::Module;
 use node_rules::Addressing;
 use node_rules::HandledIn;
 use node_rules::Mode;
-use node_rules::Node;
+use node_rules::Plate;
 
-// The 12 bits of type.
-pub fn type_of(frame: &[u8]) -> u16
-    ensures { λ r. ⌜ r ≡ typeOf (now (frame .entry)) ⌝ }
-{
-    let first = base::byte_at(frame, 0);
-    let second = base::byte_at(frame, 1);
-    (first as u16) * 16 + (second as u16) / 16
-}
-
-// Not 12 bytes, or an upper flag set.
+// Outcome 4: not 12 bytes, or an upper flag set.
 pub fn misshapen(frame: &[u8]) -> bool
     ensures { λ r. ⌜ r ≡ misshapen (now (frame .entry)) ⌝ }
 {
@@ -30,7 +23,7 @@ pub fn misshapen(frame: &[u8]) -> bool
     second % 16 / 2 != 0
 }
 
-// The response flag is set.
+// Outcome 5: the response flag is set.
 pub fn is_response(frame: &[u8]) -> bool
     ensures { λ r. ⌜ r ≡ isResponse (now (frame .entry)) ⌝ }
 {
@@ -38,19 +31,19 @@ pub fn is_response(frame: &[u8]) -> bool
     second % 16 % 2 == 1
 }
 
-// Whether two numbers are the node's own.
-fn are_own(n: Node, m: u8, g: u8) -> bool
-    ensures { λ r. ⌜ r ≡ areOwn n m g ⌝ }
+// Whether a module and a group are the node's own.
+fn are_own(p: Plate, m: Module, g: Group) -> bool
+    ensures { λ r. ⌜ r ≡ areOwn p m g ⌝ }
 {
-    if m == n.own.0 {
-        return g == n.group.0;
+    if m.0 == p.own.0 {
+        return g.0 == p.group.0;
     }
     false
 }
 
 // D2 is 0x00 and D3 is 0x00 or the own group.
-fn is_group(n: Node, frame: &[u8]) -> bool
-    ensures { λ r. ⌜ r ≡ isFor Addressing.AsGroup n (now (frame .entry)) ⌝ }
+fn is_group(p: Plate, frame: &[u8]) -> bool
+    ensures { λ r. ⌜ r ≡ isFor Addressing.AsGroup p (now (frame .entry)) ⌝ }
 {
     let second = base::byte_at(frame, 6);
     let third = base::byte_at(frame, 7);
@@ -58,7 +51,7 @@ fn is_group(n: Node, frame: &[u8]) -> bool
         if third == 0x00 {
             return true;
         }
-        return third == n.group.0;
+        return third == p.group.0;
     }
     false
 }
@@ -76,17 +69,26 @@ fn are_zero(frame: &[u8]) -> bool
 }
 
 // Whether a frame that is addressed so is for this node.
-pub fn is_for(addressing: Addressing, n: Node, frame: &[u8]) -> bool
-    ensures { λ r. ⌜ r ≡ isFor addressing n (now (frame .entry)) ⌝ }
+pub fn is_for(addressing: Addressing, p: Plate, frame: &[u8]) -> bool
+    ensures { λ r. ⌜ r ≡ isFor addressing p (now (frame .entry)) ⌝ }
 {
     match addressing {
-        Addressing::AsGroup => is_group(n, frame),
-        Addressing::AsNode => are_own(n, base::byte_at(frame, 6), base::byte_at(frame, 7)),
+        Addressing::AsGroup => is_group(p, frame),
+        Addressing::AsNode => are_own(
+            p,
+            Module(base::byte_at(frame, 6)),
+            Group(base::byte_at(frame, 7)),
+        ),
         Addressing::AllZero => are_zero(frame),
-        Addressing::OwnNumbers => are_own(n, base::byte_at(frame, 2), base::byte_at(frame, 3)),
+        Addressing::OwnNumbers => are_own(
+            p,
+            Module(base::byte_at(frame, 2)),
+            Group(base::byte_at(frame, 3)),
+        ),
     }
 }
 
+// Normal mode.
 fn is_normal(m: Mode) -> bool
     ensures { λ r. ⌜ r ≡ isNormal m ⌝ }
 {
@@ -98,6 +100,7 @@ fn is_normal(m: Mode) -> bool
     }
 }
 
+// Programming mode.
 fn is_programming(m: Mode) -> bool
     ensures { λ r. ⌜ r ≡ isProgramming m ⌝ }
 {

@@ -1,56 +1,32 @@
-// How an answer is made: a number with no reply, or one or two replies with number 0. Unused room is 0.
+// How replies are made: none, one or two. Unused room is 0.
 ghost use mathlib.Core.Path.{_≡_};
 ghost use Prim.Native.Nat.{_<_};
-ghost use Rattle.node_rules.specs.Record.{withMode};
-ghost use Rattle.node_rules.specs.Replies.{replyOf, quiet, one, two};
-use node_rules::Answer;
-use node_rules::Mode;
-use node_rules::Node;
-
-// The record in this mode.
-pub fn with_mode(n: Node, m: Mode) -> Node
-    ensures { λ r. ⌜ r ≡ withMode n m ⌝ }
-{
-    let pin = n.pin;
-    let fixed = n.fixed;
-    let own = n.own;
-    let group = n.group;
-    let held = n.held;
-    Node {
-        pin,
-        fixed,
-        own,
-        group,
-        held,
-        count: n.count,
-        mode: m,
-    }
-}
+ghost use Rattle.node_rules.specs.Replies.{replyOf, noReply, oneReply, twoReplies};
+use node_rules::Plate;
+use node_rules::Replies;
 
 // No reply.
-pub fn quiet(number: u8, n: Node) -> Answer
-    ensures { λ r. ⌜ r ≡ quiet number n ⌝ }
+pub fn none() -> Replies
+    ensures { λ r. ⌜ r ≡ noReply ⌝ }
 {
-    Answer {
-        number,
+    Replies {
         count: 0,
-        replies: [0; 24],
-        node: n,
+        bytes: [0; 24],
     }
 }
 
 // One reply of this type with these data.
-pub fn one(n: Node, t: u16, d: [u8; 8]) -> Answer
+pub fn one(p: Plate, t: u16, d: [u8; 8]) -> Replies
     requires { ⌜ t < 4096 ⌝ }
-    ensures { λ r. ⌜ r ≡ one n (replyOf n t d) ⌝ }
+    ensures { λ r. ⌜ r ≡ oneReply (replyOf p t d) ⌝ }
 {
     let first = (t / 16) as u8;
     let second = (t % 16 * 16 + 1) as u8;
-    let replies = [
+    let bytes = [
         first,
         second,
-        n.own.0,
-        n.group.0,
+        p.own.0,
+        p.group.0,
         d[0],
         d[1],
         d[2],
@@ -72,24 +48,19 @@ pub fn one(n: Node, t: u16, d: [u8; 8]) -> Answer
         0,
         0,
     ];
-    Answer {
-        number: 0,
-        count: 1,
-        replies,
-        node: n,
-    }
+    Replies { count: 1, bytes }
 }
 
 // Two replies of this type.
-pub fn two(n: Node, t: u16, d: [u8; 8], e: [u8; 8]) -> Answer
+pub fn two(p: Plate, t: u16, d: [u8; 8], e: [u8; 8]) -> Replies
     requires { ⌜ t < 4096 ⌝ }
-    ensures { λ r. ⌜ r ≡ two n (replyOf n t d) (replyOf n t e) ⌝ }
+    ensures { λ r. ⌜ r ≡ twoReplies (replyOf p t d) (replyOf p t e) ⌝ }
 {
     let first = (t / 16) as u8;
     let second = (t % 16 * 16 + 1) as u8;
-    let own = n.own.0;
-    let group = n.group.0;
-    let replies = [
+    let own = p.own.0;
+    let group = p.group.0;
+    let bytes = [
         first,
         second,
         own,
@@ -115,10 +86,5 @@ pub fn two(n: Node, t: u16, d: [u8; 8], e: [u8; 8]) -> Answer
         e[6],
         e[7],
     ];
-    Answer {
-        number: 0,
-        count: 2,
-        replies,
-        node: n,
-    }
+    Replies { count: 2, bytes }
 }

@@ -1,43 +1,24 @@
 // The eight data bytes of the replies (document 01, "Requests and replies").
 ghost use mathlib.Core.Path.{_≡_};
-ghost use Prim.Native.Nat.{_<_};
-ghost use Rattle.base.specs.Parts.{listed};
 ghost use Rattle.node_rules.specs.Replies.{hardwareData, firmwareData, firmwareErrorData, deviceData};
 use memory_address::ATYPE;
 use memory_address::AVERS;
 use memory_address::FVERS;
-use node_rules::Node;
-
-// Eight bytes from i on, 0 behind the end.
-pub fn eight(s: &[u8], i: usize) -> [u8; 8]
-    requires { ⌜ i < 2048 ⌝ }
-    ensures { λ r. ⌜ r ≡ listed (now (s .entry)) i 8 ⌝ }
-{
-    [
-        base::byte_at(s, i),
-        base::byte_at(s, i + 1),
-        base::byte_at(s, i + 2),
-        base::byte_at(s, i + 3),
-        base::byte_at(s, i + 4),
-        base::byte_at(s, i + 5),
-        base::byte_at(s, i + 6),
-        base::byte_at(s, i + 7),
-    ]
-}
+use node_rules::Plate;
 
 // 30 00 03 FF ID0 ID1 ID2 ID3.
-pub fn hardware(n: Node) -> [u8; 8]
-    ensures { λ r. ⌜ r ≡ hardwareData n ⌝ }
+pub fn hardware(p: Plate) -> [u8; 8]
+    ensures { λ r. ⌜ r ≡ hardwareData p ⌝ }
 {
-    let id = n.fixed;
+    let id = p.fixed;
     [0x30, 0x00, 0x03, 0xFF, id[0], id[1], id[2], id[3]]
 }
 
 // DEVID1 DEVID2 then six FF.
-pub fn device(n: Node) -> [u8; 8]
-    ensures { λ r. ⌜ r ≡ deviceData n ⌝ }
+pub fn device(p: Plate) -> [u8; 8]
+    ensures { λ r. ⌜ r ≡ deviceData p ⌝ }
 {
-    let id = n.fixed;
+    let id = p.fixed;
     [id[4], id[5], 0xFF, 0xFF, 0xFF, 0xFF, 0xFF, 0xFF]
 }
 

@@ -2,7 +2,7 @@
 -- and shows the eight cells, and 0x020 leaves. Each law reads `canStep` through once; whoever delivers frames cites them alone.
 -- Assumes nothing.
 use mathlib.Core.Path.{_≡_, _∙_, refl, sym, ap}
-use mathlib.Core.Bool.{true}
+use mathlib.Core.Bool.{true, false}
 use mathlib.Core.List.{List, [], _∷_}
 use Prim.Native.Nat.{ℕ, _+_, _*_, _/_, _%_, _<_}
 use native.Mathlib.Omega.{arith}
@@ -16,7 +16,6 @@ use Rattle.base.proofs.Listed.{listed-part, listed-all}
 use Rattle.memory_address.specs.Places.{full, eepromCell}
 use Rattle.memory_address.specs.Rule.{ruled, legalFlash, legalEeprom}
 use Rattle.memory_address.specs.declared.Address.{Address}
-use Rattle.memory_address.specs.declared.FlashAddress.{FlashAddress}
 use Rattle.memory_address.specs.declared.Address.the-variants.{Flash, Eeprom}
 use Rattle.memory_address.specs.declared.Ruled.the-variants.{Legal}
 use Rattle.memory_address.proofs.Laws.{flash-within, eeprom-within}
@@ -32,7 +31,7 @@ use Rattle.node_rules.specs.declared.Reply.the-variants.{Silent, Echoed}
 use Rattle.node_rules.specs.declared.Effect.{Effect}
 use Rattle.node_rules.specs.Record.{withMode, legalStaged, tidied}
 use Rattle.node_rules.specs.Requests.{handledTypes, found, commandAt, does, doing}
-use Rattle.node_rules.specs.Outcomes.{decided}
+use Rattle.node_rules.specs.Outcomes.{isNothing, decided}
 use Rattle.node_rules.specs.Replies.{noReply, oneReply}
 use Rattle.node_rules.specs.Step.{Step, after, bootflSet, answering, done, canStep}
 use Rattle.node_rules.proofs.Ruling.{sizes-full}
@@ -41,17 +40,18 @@ use Rattle.node_rules.proofs.TidiedOnce.{programming, tidied-once, tidi
 eqb-same : (x : ℕ) → eqb x x ≡ true
 eqb-same x = eq-eqb x x refl
 
--- the row shown after an erase, and after an EEPROM write
-erased-row : (flash : List ℕ) (a : ℕ) → length flash ≡ 65536 → legalFlash a 0x03 ≡ true → part (flashErased flash a) a 8 ≡ replicate 8 0xFF
-erased-row flash a l h =
+-- the eight cells after an erase, and after an EEPROM write
+erased-cells : (flash : List ℕ) (a : ℕ) → length flash ≡ 65536 → legalFlash a 0x03 ≡ true
+    → part (flashErased flash a) a 8 ≡ replicate 8 0xFF
+erased-cells flash a l h =
     let w = flash-within a 0x03 h in
     ap (λ (m : List ℕ). part m a 8) (erased-done flash a l h)
     ∙ sym (take-take 8 64 (drop a (patch flash a (replicate 64 0xFF))) (lit≤ tt))
     ∙ ap (take 8) (part-patch flash a (replicate 64 0xFF) (omega arith))
 
-eeprom-row : (eeprom : List ℕ) (a : ℕ) (d : List ℕ) → length eeprom ≡ 1024 → legalEeprom a 0x02 ≡ true → length d ≡ 8
+eeprom-cells : (eeprom : List ℕ) (a : ℕ) (d : List ℕ) → length eeprom ≡ 1024 → legalEeprom a 0x02 ≡ true → length d ≡ 8
     → part (eepromWritten eeprom a d) (eepromCell a) 8 ≡ d
-eeprom-row eeprom a d l h eight =
+eeprom-cells eeprom a d l h eight =
     let w = eeprom-within a 0x02 h in
     ap (λ (m : List ℕ). part m (eepromCell a) 8) (eeprom-written-done eeprom a d l h eight)
     ∙ ap (λ (j : ℕ). part (patch eeprom (eepromCell a) d) (eepromCell a) j) (sym eight)
@@ -92,16 +92,11 @@ module _ (n : Node) (s : Staged) where
   unfolding decided found handledTypes tidied
   decided-leave = simp eqb-same
 
--- a data frame does what is staged
-decided-write : (n : Node) (x : Address) (d : List ℕ) → length d ≡ 8
-    → decided (programming n (Write x)) true (dataTo (n .plate .own .0) (n .plate .group .0) d) ≡ doing (Write x)
-unfolding decided found handledTypes tidied
-decided-write n x d h = simp (eqb-same, h)
-
-decided-erase : (n : Node) (x : FlashAddress) (d : List ℕ) → length d ≡ 8
-    → decided (programming n (Erase x)) true (dataTo (n .plate .own .0) (n .plate .group .0) d) ≡ doing (Erase x)
-unfolding decided found handledTypes tidied
-decided-erase n x d h = simp (eqb-same, h)
+  -- a data frame does what is staged
+  decided-data : (d : List ℕ) → length d ≡ 8 → isNothing s ≡ false
+      → decided (programming n s) true (dataTo (n .plate .own .0) (n .plate .group .0) d) ≡ doing s
+  unfolding decided found handledTypes tidied
+  decided-data d h k = simp (eqb-same, h, k)
 
 -- the staged commands of an update, at the number of their address
 abbrev pub writeFlash : ℕ → Staged
@@ -163,9 +158,9 @@ module _ (n : Node) (flash eeprom : List ℕ) (l : length flash ≡ 65536) (k : 
         let w = flash-within a 0x03 h in
         let long = erased-length flash a ∙ l in
         obeys (eraseFlash a) h (dataTo (n .plate .own .0) (n .plate .group .0) d) (doing (eraseFlash a))
-        (decided-erase n (record { 0 = a }) d eight)
+        (decided-data n (eraseFlash a) d eight refl)
         ∙ ap (λ (cells : List ℕ). showing (eraseFlash a) cells (flashErased flash a) eeprom)
-        (listed-part (flashErased flash a) a 8 (omega arith) ∙ erased-row flash a l h)
+        (listed-part (flashErased flash a) a 8 (omega arith) ∙ erased-cells flash a l h)
 
     -- with a FLASH write staged: the row is written over what was there, and the reply shows it
     pub writes-flash : legalFlash a 0x02 ≡ true
@@ -177,7 +172,7 @@ module _ (n : Node) (flash eeprom : List ℕ) (l : length flash ≡ 65536) (k : 
         let w = flash-within a 0x02 h in
         let long = written-length flash a d ∙ l in
         obeys (writeFlash a) h (dataTo (n .plate .own .0) (n .plate .group .0) d) (doing (writeFlash a))
-        (decided-write n (Flash (record { 0 = a })) d eight)
+        (decided-data n (writeFlash a) d eight refl)
         ∙ ap (λ (new : List ℕ). showing (writeFlash a) (listed (flashWritten flash a new) a 8) (flashWritten flash a new) eeprom)
         (listed-all d 8 eight)
         ∙ ap (λ (cells : List ℕ). showing (writeFlash a) cells (flashWritten flash a d) eeprom)
@@ -192,10 +187,10 @@ module _ (n : Node) (flash eeprom : List ℕ) (l : length flash ≡ 65536) (k : 
         let w = eeprom-within a 0x02 h in
         let long = eeprom-written-length eeprom a d ∙ k in
         obeys (writeEeprom a) h (dataTo (n .plate .own .0) (n .plate .group .0) d) (doing (writeEeprom a))
-        (decided-write n (Eeprom (record { 0 = a })) d eight)
+        (decided-data n (writeEeprom a) d eight refl)
         ∙ ap
         (λ (new : List ℕ). showing (writeEeprom a) (listed (eepromWritten eeprom a new) (eepromCell a) 8) flash
         (eepromWritten eeprom a new))
         (listed-all d 8 eight)
         ∙ ap (λ (cells : List ℕ). showing (writeEeprom a) cells flash (eepromWritten eeprom a d))
-        (listed-part (eepromWritten eeprom a d) (eepromCell a) 8 (omega arith) ∙ eeprom-row eeprom a d k h eight)
+        (listed-part (eepromWritten eeprom a d) (eepromCell a) 8 (omega arith) ∙ eeprom-cells eeprom a d k h eight)

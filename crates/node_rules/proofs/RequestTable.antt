@@ -3,7 +3,7 @@
 -- Assumes nothing.
 use mathlib.Core.Path.{_≡_, _∙_, refl, sym}
 use mathlib.Core.Bool.{Bool, true, false, _&&_, _||_}
-use mathlib.Core.List.{List, [], _∷_}
+use mathlib.Core.List.{List, [], _∷_, _++_}
 use mathlib.Core.Logic.{_⊎_, inl, inr}
 use Prim.Native.Nat.{ℕ, _+_, _/_, _%_}
 use lib.Dec.{eqb}
@@ -26,7 +26,7 @@ use Rattle.node_rules.specs.Record.{withMode, tidied}
 use Rattle.node_rules.specs.Requests.{kind, lookIn, found, handledTypes, isNormal, handledHere, isFor, asked}
 use Rattle.node_rules.specs.Outcomes.{unless, isDeaf, misshapen, isResponse, requestOutcomes}
 use Rattle.node_rules.specs.Step.{done, canStep}
-use Rattle.node_rules.specs.Reading.{leaves, ToGroup, ToNode, NoneIs}
+use Rattle.node_rules.specs.Reading.{leaves, repliesWith, withOwn, eightOf, eightAt, ToGroup, ToNode, NoneIs}
 use Rattle.node_rules.proofs.Ruling.{sizes-full, obeys, not-in-table, not-in-mode, not-for-it}
 
 to-group : (p : Plate) (d2 d3 : ℕ) → ToGroup p d2 d3 → (eqb d2 0x00 && (eqb d3 0x00 || eqb d3 (p .group .0))) ≡ true
@@ -66,7 +66,7 @@ module _ (n : Node) (flash eeprom : List ℕ) (fl : length flash ≡ 65536) (el 
 
   -- a frame of a type of the table, by its first two bytes
   abbrev request-of : ℕ → ℕ → List ℕ
-  request-of b1 b2 = b1 ∷ b2 ∷ m ∷ g ∷ d0 ∷ d1 ∷ d2 ∷ d3 ∷ d4 ∷ d5 ∷ d6 ∷ d7 ∷ []
+  request-of b1 b2 = b1 ∷ b2 ∷ m ∷ g ∷ eightOf d0 d1 d2 d3 d4 d5 d6 d7
 
   by-request : (b1 b2 : ℕ) (k : Kind) → misshapen (request-of b1 b2) ≡ false → isResponse (request-of b1 b2) ≡ false
       → found (typeOf (request-of b1 b2)) ≡ Handled k → k .handled ≡ InNormal
@@ -80,16 +80,16 @@ module _ (n : Node) (flash eeprom : List ℕ) (fl : length flash ≡ 65536) (el 
 
   -- 0x100 to the node: "FF FF 03 04 FF FF FF FF; BOOTFL becomes 0xFF, programming, nothing staged"
   pub request-100 : ToNode (n .plate) d2 d3
-      → canStep n (0x10 ∷ 0x00 ∷ m ∷ g ∷ d0 ∷ d1 ∷ d2 ∷ d3 ∷ d4 ∷ d5 ∷ d6 ∷ d7 ∷ []) flash eeprom
-      ≡ leaves 0 1 (0x10 ∷ 0x01 ∷ n .plate .own .0 ∷ n .plate .group .0
-      ∷ 0xFF ∷ 0xFF ∷ 0x03 ∷ 0x04 ∷ 0xFF ∷ 0xFF ∷ 0xFF ∷ 0xFF ∷ replicate 12 0)
+      → canStep n (0x10 ∷ 0x00 ∷ m ∷ g ∷ eightOf d0 d1 d2 d3 d4 d5 d6 d7) flash eeprom
+      ≡ repliesWith
+      (withOwn (n .plate) 0x10 0x01 (eightOf 0xFF 0xFF 0x03 0x04 0xFF 0xFF 0xFF 0xFF))
       (withMode (tidied n) (Programming Nothing)) flash (set eeprom 0 0xFF)
   unfolding done tidied found handledTypes
   request-100 a = by-request 0x10 0x00 (kind 0x100 InNormal AsNode EnterProgramming) refl refl refl refl (to-node (n .plate) d2 d3 a)
 
   -- 0x101 to the group, 0x102 to the node: "none; waits for restart"
   pub request-101-102 : (b2 : ℕ) → ((b2 ≡ 0x10) × ToGroup (n .plate) d2 d3) ⊎ ((b2 ≡ 0x20) × ToNode (n .plate) d2 d3)
-      → canStep n (0x10 ∷ b2 ∷ m ∷ g ∷ d0 ∷ d1 ∷ d2 ∷ d3 ∷ d4 ∷ d5 ∷ d6 ∷ d7 ∷ []) flash eeprom
+      → canStep n (0x10 ∷ b2 ∷ m ∷ g ∷ eightOf d0 d1 d2 d3 d4 d5 d6 d7) flash eeprom
       ≡ leaves 0 0 (replicate 24 0) (withMode (tidied n) Waiting) flash eeprom
   unfolding done tidied found handledTypes
   request-101-102 b2 (inl (e, a)) =
@@ -99,11 +99,11 @@ module _ (n : Node) (flash eeprom : List ℕ) (fl : length flash ≡ 65536) (el 
 
   -- 0x103 to the group, 0x104 to the node: "30 00 03 FF ID0 ID1 ID2 ID3"
   pub request-103-104 : (b2 : ℕ) → ((b2 ≡ 0x30) × ToGroup (n .plate) d2 d3) ⊎ ((b2 ≡ 0x40) × ToNode (n .plate) d2 d3)
-      → canStep n (0x10 ∷ b2 ∷ m ∷ g ∷ d0 ∷ d1 ∷ d2 ∷ d3 ∷ d4 ∷ d5 ∷ d6 ∷ d7 ∷ []) flash eeprom
-      ≡ leaves 0 1
-      (0x10 ∷ (b2 + 1) ∷ n .plate .own .0 ∷ n .plate .group .0
-      ∷ 0x30 ∷ 0x00 ∷ 0x03 ∷ 0xFF ∷ getD (n .plate .fixed) 0 0 ∷ getD (n .plate .fixed) 1 0
-      ∷ getD (n .plate .fixed) 2 0 ∷ getD (n .plate .fixed) 3 0 ∷ replicate 12 0)
+      → canStep n (0x10 ∷ b2 ∷ m ∷ g ∷ eightOf d0 d1 d2 d3 d4 d5 d6 d7) flash eeprom
+      ≡ repliesWith
+      (withOwn (n .plate) 0x10 (b2 + 1)
+      (eightOf 0x30 0x00 0x03 0xFF (getD (n .plate .fixed) 0 0) (getD (n .plate .fixed) 1 0) (getD (n .plate .fixed) 2 0)
+      (getD (n .plate .fixed) 3 0)))
       (tidied n) flash eeprom
   unfolding done tidied found handledTypes
   request-103-104 b2 (inl (e, a)) =
@@ -113,10 +113,10 @@ module _ (n : Node) (flash eeprom : List ℕ) (fl : length flash ≡ 65536) (el 
 
   -- 0x105 to the group, and 0x106 to the node with firmware started: "30 00 03 ATYPE AVERS FVERS 03 04"
   pub request-105-106 : (b2 : ℕ) → ((b2 ≡ 0x50) × ToGroup (n .plate) d2 d3) ⊎ ((b2 ≡ 0x60) × ToNode (n .plate) d2 d3 × (started ≡ true))
-      → canStep n (0x10 ∷ b2 ∷ m ∷ g ∷ d0 ∷ d1 ∷ d2 ∷ d3 ∷ d4 ∷ d5 ∷ d6 ∷ d7 ∷ []) flash eeprom
-      ≡ leaves 0 1
-      (0x10 ∷ (b2 + 1) ∷ n .plate .own .0 ∷ n .plate .group .0 ∷ 0x30 ∷ 0x00 ∷ 0x03 ∷ getD flash 0x001013 0 ∷ getD flash 0x001014 0
-      ∷ getD flash 0x001015 0 ∷ 0x03 ∷ 0x04 ∷ replicate 12 0)
+      → canStep n (0x10 ∷ b2 ∷ m ∷ g ∷ eightOf d0 d1 d2 d3 d4 d5 d6 d7) flash eeprom
+      ≡ repliesWith
+      (withOwn (n .plate) 0x10 (b2 + 1)
+      (eightOf 0x30 0x00 0x03 (getD flash 0x001013 0) (getD flash 0x001014 0) (getD flash 0x001015 0) 0x03 0x04))
       (tidied n) flash eeprom
   unfolding done tidied found handledTypes
   request-105-106 b2 (inl (e, a)) =
@@ -128,11 +128,9 @@ module _ (n : Node) (flash eeprom : List ℕ) (fl : length flash ≡ 65536) (el 
 
   -- 0x106 to the node, "with firmware not started the reply has type 0x1F1: 01, worked-out sum high byte first, FF FF 03 04"
   pub request-1F1 : ToNode (n .plate) d2 d3 → started ≡ false → (sum : ℕ) → sum ≡ sumOf (part flash 0x001003 28669)
-      → canStep n (0x10 ∷ 0x60 ∷ m ∷ g ∷ d0 ∷ d1 ∷ d2 ∷ d3 ∷ d4 ∷ d5 ∷ d6 ∷ d7 ∷ []) flash eeprom
-      ≡ leaves 0 1
-      (0x1F ∷ 0x11 ∷ n .plate .own .0 ∷ n .plate .group .0
-      ∷ 0x01 ∷ sum / 65536 % 256 ∷ sum / 256 % 256 ∷ sum % 256 ∷ 0xFF ∷ 0xFF ∷ 0x03 ∷ 0x04
-      ∷ replicate 12 0)
+      → canStep n (0x10 ∷ 0x60 ∷ m ∷ g ∷ eightOf d0 d1 d2 d3 d4 d5 d6 d7) flash eeprom
+      ≡ repliesWith
+      (withOwn (n .plate) 0x1F 0x11 (eightOf 0x01 (sum / 65536 % 256) (sum / 256 % 256) (sum % 256) 0xFF 0xFF 0x03 0x04))
       (tidied n) flash eeprom
   unfolding done tidied found handledTypes
   request-1F1 a s sum e =
@@ -141,14 +139,9 @@ module _ (n : Node) (flash eeprom : List ℕ) (fl : length flash ≡ 65536) (el 
 
   -- 0x10D to the group, 0x10E to the node: "two frames, description 0 to 7 then 8 to 15"
   pub request-10D-10E : (b2 : ℕ) → ((b2 ≡ 0xD0) × ToGroup (n .plate) d2 d3) ⊎ ((b2 ≡ 0xE0) × ToNode (n .plate) d2 d3)
-      → canStep n (0x10 ∷ b2 ∷ m ∷ g ∷ d0 ∷ d1 ∷ d2 ∷ d3 ∷ d4 ∷ d5 ∷ d6 ∷ d7 ∷ []) flash eeprom
+      → canStep n (0x10 ∷ b2 ∷ m ∷ g ∷ eightOf d0 d1 d2 d3 d4 d5 d6 d7) flash eeprom
       ≡ leaves 0 2
-      (0x10 ∷ (b2 + 1) ∷ n .plate .own .0 ∷ n .plate .group .0
-      ∷ getD eeprom 0x30 0 ∷ getD eeprom 0x31 0 ∷ getD eeprom 0x32 0 ∷ getD eeprom 0x33 0
-      ∷ getD eeprom 0x34 0 ∷ getD eeprom 0x35 0 ∷ getD eeprom 0x36 0 ∷ getD eeprom 0x37 0
-      ∷ 0x10 ∷ (b2 + 1) ∷ n .plate .own .0 ∷ n .plate .group .0
-      ∷ getD eeprom 0x38 0 ∷ getD eeprom 0x39 0 ∷ getD eeprom 0x3A 0 ∷ getD eeprom 0x3B 0
-      ∷ getD eeprom 0x3C 0 ∷ getD eeprom 0x3D 0 ∷ getD eeprom 0x3E 0 ∷ getD eeprom 0x3F 0 ∷ [])
+      (withOwn (n .plate) 0x10 (b2 + 1) (eightAt eeprom 0x30) ++ withOwn (n .plate) 0x10 (b2 + 1) (eightAt eeprom 0x38))
       (tidied n) flash eeprom
   unfolding done tidied found handledTypes
   request-10D-10E b2 (inl (e, a)) =
@@ -159,11 +152,9 @@ module _ (n : Node) (flash eeprom : List ℕ) (fl : length flash ≡ 65536) (el 
   -- 0x10F to the group, 0x111 to the node: "DEVID1 DEVID2 then six FF"
   pub request-10F-111 : (b1 b2 : ℕ) → ((b1 ≡ 0x10) × (b2 ≡ 0xF0) × ToGroup (n .plate) d2 d3)
       ⊎ ((b1 ≡ 0x11) × (b2 ≡ 0x10) × ToNode (n .plate) d2 d3)
-      → canStep n (b1 ∷ b2 ∷ m ∷ g ∷ d0 ∷ d1 ∷ d2 ∷ d3 ∷ d4 ∷ d5 ∷ d6 ∷ d7 ∷ []) flash eeprom
-      ≡ leaves 0 1
-      (b1 ∷ (b2 + 1) ∷ n .plate .own .0 ∷ n .plate .group .0
-      ∷ getD (n .plate .fixed) 4 0 ∷ getD (n .plate .fixed) 5 0 ∷ 0xFF ∷ 0xFF ∷ 0xFF ∷ 0xFF ∷ 0xFF ∷ 0xFF
-      ∷ replicate 12 0)
+      → canStep n (b1 ∷ b2 ∷ m ∷ g ∷ eightOf d0 d1 d2 d3 d4 d5 d6 d7) flash eeprom
+      ≡ repliesWith
+      (withOwn (n .plate) b1 (b2 + 1) (eightOf (getD (n .plate .fixed) 4 0) (getD (n .plate .fixed) 5 0) 0xFF 0xFF 0xFF 0xFF 0xFF 0xFF))
       (tidied n) flash eeprom
   unfolding done tidied found handledTypes
   request-10F-111 b1 b2 (inl (e, h, a)) =

@@ -30,7 +30,7 @@ use Rattle.node_rules.proofs.RequestTable.{request-100, request-101-102
 use Rattle.node_rules.proofs.ProgrammingList.{request-010-020, request-030-illegal, request-030-read-flash, request-030-write-flash, request-030-erase, request-030-read-eeprom, request-030-write-eeprom, request-040-nothing, request-040-read-flash, request-040-read-eeprom, request-040-write-flash, request-040-write-eeprom, request-040-erase}
 
 -- a node with numbers 05, 0A, and blank memories
-pub nodeIn : Mode → Node
+unfoldable pub nodeIn : Mode → Node
 nodeIn m =
     record {
       choices = plain CanAndUart;
@@ -55,7 +55,7 @@ pub sizes-met : (length (blank 65536) ≡ 65536) × (length (blank 1024) ≡ 102
 sizes-met = (sized 65536, sized 1024)
 
 -- 0x100 to the node
-pub asks : List ℕ
+unfoldable pub asks : List ℕ
 asks = 0x10 ∷ 0x00 ∷ 0xF0 ∷ 0xF0 ∷ 0xFF ∷ 0xFF ∷ 0x05 ∷ 0x0A ∷ 0xFF ∷ 0xFF ∷ 0xFF ∷ 0xFF ∷ []
 
 -- frames of the request table by their first two bytes, D2 and D3; of 0x010, 0x020 and 0x040 by the first byte and the frame numbers; of

@@ -1,6 +1,6 @@
 // The handled types, in one table.
 ghost use mathlib.Core.Path.{_≡_};
-ghost use Rattle.node_rules.specs.Table.{found};
+ghost use Rattle.node_rules.specs.Requests.{found};
 use node_rules::Addressing;
 use node_rules::Found;
 use node_rules::HandledIn;
@@ -105,13 +105,22 @@ pub fn look_up(t: u16) -> Found
     ensures { λ r. ⌜ r ≡ found t ⌝ }
 {
     let table = TABLE;
-    let mut i = 0;
-    while i < 15 {
-        let k = table[i];
-        if k.frame_type == t {
-            return Found::Handled(k);
-        }
-        i += 1;
+    match t {
+        0x100 => Found::Handled(table[0]),
+        0x101 => Found::Handled(table[1]),
+        0x102 => Found::Handled(table[2]),
+        0x103 => Found::Handled(table[3]),
+        0x104 => Found::Handled(table[4]),
+        0x105 => Found::Handled(table[5]),
+        0x106 => Found::Handled(table[6]),
+        0x10D => Found::Handled(table[7]),
+        0x10E => Found::Handled(table[8]),
+        0x10F => Found::Handled(table[9]),
+        0x111 => Found::Handled(table[10]),
+        0x010 => Found::Handled(table[11]),
+        0x020 => Found::Handled(table[12]),
+        0x030 => Found::Handled(table[13]),
+        0x040 => Found::Handled(table[14]),
+        _ => Found::Unhandled,
     }
-    Found::Unhandled
 }

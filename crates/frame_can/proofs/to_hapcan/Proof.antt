@@ -68,7 +68,8 @@ returns c =
     let h = done t in
     let l = ap length (d .ensures) in
     let q = c .before .before .copy .ensures .1 ∙ mix-all (d .result) _ _ refl (simp (length-take, length-drop) (omega arith)) in
-    let e = laid (a .identifier) (a .frame .now) (a .«data» .now) _ _ (k .put-head .ensures) (q ∙ d .ensures ∙ listed-all (a .«data» .now) 8 (h .2)) in
+    let r = q ∙ d .ensures ∙ listed-all (a .«data» .now) 8 (h .2) in
+    let e = laid (a .identifier) (a .frame .now) (a .«data» .now) _ _ (k .put-head .ensures) r in
     (t .before .to-hapcan-number .ensures, rw (t .if1 .taken) e)
 
 returns-2 : tie.Need-returns-2

@@ -20,13 +20,19 @@ same-length : tie.Need-same-length
 same-length c = search needs
 
 returns : tie.Need-returns
-returns c = (simp (c .before .before .before .before .before .at .given .1) (c .before .before .write-flash .ensures .1), simp (c .before .before .before .before .before .at .given .1))
+returns c = (
+  simp (c .before .before .before .before .before .at .given .1) (c .before .before .write-flash .ensures .1),
+  simp (c .before .before .before .before .before .at .given .1),
+)
 
 same-length-2 : tie.Need-same-length-2
 same-length-2 c = search needs
 
 returns-2 : tie.Need-returns-2
-returns-2 c = (simp (c .before .before .before .before .before .at2 .given .1), simp (c .before .before .before .before .before .at2 .given .1) (c .before .before .write-eeprom .ensures .1))
+returns-2 c = (
+  simp (c .before .before .before .before .before .at2 .given .1),
+  simp (c .before .before .before .before .before .at2 .given .1) (c .before .before .write-eeprom .ensures .1),
+)
 
 pub put-spec : {M : Type 1} → statement M
 put-spec =

@@ -1,18 +1,67 @@
--- `node_decide::decide` meets its contract: the tests come in the order of the rows, each a flag of what its row says.
+-- `node_decide::decide` meets its contract: the tests come in the order of the outcomes.
 -- Assumes nothing.
-use Rattle.node_decide.proofs.Listed.{decided-listed}
+use Rattle.node_rules.specs.Outcomes.{decided}
 use borrow.Author.Needs.{needs}
 use Rattle.node_decide.proofs.decide.Statement.{statement}
 use Rattle.node_decide.proofs.decide.Tie as tie
 
+refuse-requires : tie.Need-refuse-requires
+refuse-requires c κs = search needs
+
+returns : tie.Need-returns
+unfolding decided
+returns c = simp (c .before .if1 .taken) (c .refuse .ensures)
+
 is-deaf-requires : tie.Need-is-deaf-requires
 is-deaf-requires c κs = search needs
+
+refuse-requires-2 : tie.Need-refuse-requires-2
+refuse-requires-2 c κs = search needs
+
+returns-2 : tie.Need-returns-2
+unfolding decided
+returns-2 c =
+    simp (
+      c .before .before .before .if1 .left,
+      ← c .before .before .is-deaf .ensures,
+      c .before .if2 .taken,
+    ) (c .refuse2 .ensures)
 
 misshapen-requires : tie.Need-misshapen-requires
 misshapen-requires c κs = search needs
 
+refuse-requires-3 : tie.Need-refuse-requires-3
+refuse-requires-3 c κs = search needs
+
+returns-3 : tie.Need-returns-3
+unfolding decided
+returns-3 c =
+    simp (
+      c .before .before .before .before .before .if1 .left,
+      ← c .before .before .before .before .is-deaf .ensures,
+      c .before .before .before .if2 .left,
+      ← c .before .before .misshapen .ensures,
+      c .before .if3 .taken,
+    ) (c .refuse3 .ensures)
+
 is-response-requires : tie.Need-is-response-requires
 is-response-requires c κs = search needs
+
+refuse-requires-4 : tie.Need-refuse-requires-4
+refuse-requires-4 c κs = search needs
+
+returns-4 : tie.Need-returns-4
+unfolding decided
+returns-4 c =
+    simp (
+      c .before .before .before .before .before .before .before .if1 .left,
+      ← c .before .before .before .before .before .before .is-deaf .ensures,
+      c .before .before .before .before .before .if2 .left,
+      ← c .before .before .before .before .misshapen .ensures,
+      c .before .before .before .if3 .left,
+      ← c .before .before .is-response .ensures,
+      c .before .if4 .taken,
+    ) (c .refuse4 .ensures)
 
 type-of-requires : tie.Need-type-of-requires
 type-of-requires c κs = search needs
@@ -20,66 +69,70 @@ type-of-requires c κs = search needs
 look-up-requires : tie.Need-look-up-requires
 look-up-requires c κs = search needs
 
-is-elsewhere-requires : tie.Need-is-elsewhere-requires
-is-elsewhere-requires c κs = search needs
+enum-known-k : tie.Need-enum-known-k
+enum-known-k c = search needs
 
-is-foreign-requires : tie.Need-is-foreign-requires
-is-foreign-requires c κs = search needs
+accepted-requires : tie.Need-accepted-requires
+accepted-requires c κs = search needs
 
-asked-by-requires : tie.Need-asked-by-requires
-asked-by-requires c κs = search needs
+enum-told : tie.Need-enum-told
+enum-told c = search needs
 
-returns : tie.Need-returns
-returns c =
-    rw (decided-listed (c .before .before .before .before .before .before .before .before .before .before .args .n) (c .before .before .before .before .before .before .before .before .before .before .args .fits) (c .before .before .before .before .before .before .before .before .before .before .args .frame .now))
-    (simp (c .if1 .taken))
-
-returns-2 : tie.Need-returns-2
-returns-2 c =
-    rw (decided-listed (c .before .before .before .before .before .before .before .before .before .before .before .args .n) (c .before .before .before .before .before .before .before .before .before .before .before .args .fits) (c .before .before .before .before .before .before .before .before .before .before .before .args .frame .now))
-    (simp (c .before .if1 .left, ← c .before .before .before .before .before .before .before .before .before .is-deaf .ensures, c .if2 .taken))
-
-returns-3 : tie.Need-returns-3
-returns-3 c =
-    rw (decided-listed (c .before .before .before .before .before .before .before .before .before .before .before .before .args .n) (c .before .before .before .before .before .before .before .before .before .before .before .before .args .fits) (c .before .before .before .before .before .before .before .before .before .before .before .before .args .frame .now))
-    (simp (c .before .before .if1 .left, ← c .before .before .before .before .before .before .before .before .before .before .is-deaf .ensures, c .before .if2 .left, ← c .before .before .before .before .before .before .before .before .before .misshapen .ensures, c .if3 .taken))
-
-returns-4 : tie.Need-returns-4
-returns-4 c =
-    rw (decided-listed (c .before .before .before .before .before .before .before .before .before .before .before .before .before .args .n) (c .before .before .before .before .before .before .before .before .before .before .before .before .before .args .fits) (c .before .before .before .before .before .before .before .before .before .before .before .before .before .args .frame .now))
-    (simp (c .before .before .before .if1 .left, ← c .before .before .before .before .before .before .before .before .before .before .before .is-deaf .ensures, c .before .before .if2 .left, ← c .before .before .before .before .before .before .before .before .before .before .misshapen .ensures, c .before .if3 .left, ← c .before .before .before .before .before .before .before .before .before .is-response .ensures, c .if4 .taken))
+refuse-requires-5 : tie.Need-refuse-requires-5
+refuse-requires-5 c κs = search needs
 
 returns-5 : tie.Need-returns-5
+unfolding decided
 returns-5 c =
-    rw (decided-listed (c .before .before .before .before .before .before .before .before .before .before .before .before .before .before .args .n) (c .before .before .before .before .before .before .before .before .before .before .before .before .before .before .args .fits) (c .before .before .before .before .before .before .before .before .before .before .before .before .before .before .args .frame .now))
-    (simp (c .before .before .before .before .if1 .left, ← c .before .before .before .before .before .before .before .before .before .before .before .before .is-deaf .ensures, c .before .before .before .if2 .left, ← c .before .before .before .before .before .before .before .before .before .before .before .misshapen .ensures, c .before .before .if3 .left, ← c .before .before .before .before .before .before .before .before .before .before .is-response .ensures, c .before .if4 .left, ← c .before .before .before .before .before .before .before .before .before .type-of .ensures, ← c .before .before .before .before .before .before .before .before .look-up .ensures, ← c .before .before .before .before .before .before .before .is-elsewhere .ensures, c .if5 .taken))
+    simp (
+      c .before .before .before .before .before .before .before .before .before .before .before .before .if1 .left,
+      ← c .before .before .before .before .before .before .before .before .before .before .before .is-deaf .ensures,
+      c .before .before .before .before .before .before .before .before .before .before .if2 .left,
+      ← c .before .before .before .before .before .before .before .before .before .misshapen .ensures,
+      c .before .before .before .before .before .before .before .before .if3 .left,
+      ← c .before .before .before .before .before .before .before .is-response .ensures,
+      c .before .before .before .before .before .before .if4 .left,
+      ← c .before .before .before .before .before .type-of .ensures .0,
+      ← c .before .before .before .before .look-up .ensures,
+      c .before .before .k .given .1,
+    ) (c .accepted .ensures)
 
 returns-6 : tie.Need-returns-6
+unfolding decided
 returns-6 c =
-    rw (decided-listed (c .before .before .before .before .before .before .before .before .before .before .before .before .before .before .before .args .n) (c .before .before .before .before .before .before .before .before .before .before .before .before .before .before .before .args .fits) (c .before .before .before .before .before .before .before .before .before .before .before .before .before .before .before .args .frame .now))
-    (simp (c .before .before .before .before .before .if1 .left, ← c .before .before .before .before .before .before .before .before .before .before .before .before .before .is-deaf .ensures, c .before .before .before .before .if2 .left, ← c .before .before .before .before .before .before .before .before .before .before .before .before .misshapen .ensures, c .before .before .before .if3 .left, ← c .before .before .before .before .before .before .before .before .before .before .before .is-response .ensures, c .before .before .if4 .left, ← c .before .before .before .before .before .before .before .before .before .before .type-of .ensures, ← c .before .before .before .before .before .before .before .before .before .look-up .ensures, ← c .before .before .before .before .before .before .before .before .is-elsewhere .ensures, c .before .if5 .left, ← c .before .before .before .before .before .before .before .is-foreign .ensures, c .if6 .taken))
-
-returns-7 : tie.Need-returns-7
-returns-7 c =
-    rw (decided-listed (c .before .before .before .before .before .before .before .before .before .before .before .before .before .before .before .args .n) (c .before .before .before .before .before .before .before .before .before .before .before .before .before .before .before .args .fits) (c .before .before .before .before .before .before .before .before .before .before .before .before .before .before .before .args .frame .now))
-    (simp (c .before .before .before .before .before .if1 .left, ← c .before .before .before .before .before .before .before .before .before .before .before .before .before .is-deaf .ensures, c .before .before .before .before .if2 .left, ← c .before .before .before .before .before .before .before .before .before .before .before .before .misshapen .ensures, c .before .before .before .if3 .left, ← c .before .before .before .before .before .before .before .before .before .before .before .is-response .ensures, c .before .before .if4 .left, ← c .before .before .before .before .before .before .before .before .before .before .type-of .ensures, ← c .before .before .before .before .before .before .before .before .before .look-up .ensures, ← c .before .before .before .before .before .before .before .before .is-elsewhere .ensures, c .before .if5 .left, ← c .before .before .before .before .before .before .before .is-foreign .ensures, c .if6 .left, ← c .before .before .before .before .before .before .asked-by .ensures))
+    simp (
+      c .before .before .before .before .before .before .before .before .before .before .before .if1 .left,
+      ← c .before .before .before .before .before .before .before .before .before .before .is-deaf .ensures,
+      c .before .before .before .before .before .before .before .before .before .if2 .left,
+      ← c .before .before .before .before .before .before .before .before .misshapen .ensures,
+      c .before .before .before .before .before .before .before .if3 .left,
+      ← c .before .before .before .before .before .before .is-response .ensures,
+      c .before .before .before .before .before .if4 .left,
+      ← c .before .before .before .before .type-of .ensures .0,
+      ← c .before .before .before .look-up .ensures,
+      c .before .enum-told .given .1,
+    ) (c .refuse5 .ensures)
 
 pub decide-spec : {M : Type 1} → statement M
 decide-spec =
     tie.close
     (tie.spec
+    refuse-requires
+    returns
     is-deaf-requires
+    refuse-requires-2
+    returns-2
     misshapen-requires
+    refuse-requires-3
+    returns-3
     is-response-requires
+    refuse-requires-4
+    returns-4
     type-of-requires
     look-up-requires
-    is-elsewhere-requires
-    is-foreign-requires
-    asked-by-requires
-    returns
-    returns-2
-    returns-3
-    returns-4
+    enum-known-k
+    accepted-requires
+    enum-told
+    refuse-requires-5
     returns-5
-    returns-6
-    returns-7)
+    returns-6)

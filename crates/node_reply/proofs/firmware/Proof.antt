@@ -16,7 +16,11 @@ one-requires c κs = search needs
 
 returns : tie.Need-returns
 returns c =
-    simp (eq-eqb _ 0x106 (c .before .before .before .before .if1 .taken), ← c .before .before .before .has-started .ensures, c .before .before .if2 .taken) (rw (c .before .firmware-type .ensures) at (c .one .ensures))
+    simp (
+      eq-eqb _ 0x106 (c .before .before .before .before .if1 .taken),
+      ← c .before .before .before .has-started .ensures,
+      c .before .before .if2 .taken,
+    ) (rw (c .before .firmware-type .ensures) at (c .one .ensures))
 
 firmware-error-requires : tie.Need-firmware-error-requires
 firmware-error-requires c κs = search needs
@@ -26,7 +30,11 @@ one-requires-2 c κs = search needs
 
 returns-2 : tie.Need-returns-2
 returns-2 c =
-    simp (eq-eqb _ 0x106 (c .before .before .before .before .if1 .taken), ← c .before .before .before .has-started .ensures, c .before .before .if2 .left) (rw (c .before .firmware-error .ensures) at (c .one2 .ensures))
+    simp (
+      eq-eqb _ 0x106 (c .before .before .before .before .if1 .taken),
+      ← c .before .before .before .has-started .ensures,
+      c .before .before .if2 .left,
+    ) (rw (c .before .firmware-error .ensures) at (c .one2 .ensures))
 
 firmware-type-requires-2 : tie.Need-firmware-type-requires-2
 firmware-type-requires-2 c κs = search needs

@@ -1,5 +1,5 @@
--- `frame_can::convert::to_can_number` meets its contract: each return is the case that its tests led to. A flag above the response flag is set
--- exactly where the four flags are more than 1.
+-- `frame_can::convert::to_can_number` meets its contract: each return is the case that its tests led to. A flag above the response flag is
+-- set exactly where the four flags are more than 1.
 -- Assumes nothing.
 use mathlib.Core.Path.{_≡_}
 use Prim.Native.Nat.{ℕ, _≤_, _<_, _/_}

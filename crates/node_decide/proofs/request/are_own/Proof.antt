@@ -5,7 +5,7 @@ use Rattle.node_decide.proofs.request.are_own.Statement.{statement}
 use Rattle.node_decide.proofs.request.are_own.Tie as tie
 
 returns : tie.Need-returns
-returns c = simp (eq-eqb _ _ (c .before .if1 .taken))
+returns c = simp (eq-eqb _ _ (c .before .before .if1 .taken))
 
 returns-2 : tie.Need-returns-2
 returns-2 c = simp (ne-eqb _ _ (c .if1 .left))

@@ -44,13 +44,23 @@ returns : tie.Need-returns
 returns c = simp (c .before .enum-told .given .1) (c .is-group .ensures)
 
 returns-2 : tie.Need-returns-2
-returns-2 c = simp (c .before .before .before .enum-told2 .given .1, ← c .before .before .byte-at .ensures, ← c .before .byte-at2 .ensures) (c .are-own .ensures)
+returns-2 c =
+    simp (
+      c .before .before .before .enum-told2 .given .1,
+      ← c .before .before .byte-at .ensures,
+      ← c .before .byte-at2 .ensures,
+    ) (c .are-own .ensures)
 
 returns-3 : tie.Need-returns-3
 returns-3 c = simp (c .before .enum-told3 .given .1) (c .are-zero .ensures)
 
 returns-4 : tie.Need-returns-4
-returns-4 c = simp (c .before .before .before .enum-told4 .given .1, ← c .before .before .byte-at3 .ensures, ← c .before .byte-at4 .ensures) (c .are-own2 .ensures)
+returns-4 c =
+    simp (
+      c .before .before .before .enum-told4 .given .1,
+      ← c .before .before .byte-at3 .ensures,
+      ← c .before .byte-at4 .ensures,
+    ) (c .are-own2 .ensures)
 
 pub is-for-spec : {M : Type 1} → statement M
 is-for-spec =

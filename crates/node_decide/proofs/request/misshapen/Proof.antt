@@ -1,4 +1,4 @@
--- `node_decide::request::misshapen` meets its contract: the two tests are those of row 4.
+-- `node_decide::request::misshapen` meets its contract: the two tests are those of outcome 4.
 -- Assumes nothing.
 use borrow.Author.Tests.{eq-eqb, ne-eqb}
 use borrow.Author.Needs.{needs}

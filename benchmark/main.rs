@@ -1,0 +1,347 @@
+//! The program around the peer: reads the streams of second/PROTOCOL.md and prints what that page
+//! says, so that the peer can be held to the proved programs.
+//!   peer answer < sessions
+//!   peer apply-recipes < recipes
+
+mod peer;
+
+use peer::*;
+use std::io::{self, BufWriter, Read, Write};
+
+const RECORD: usize = 64;
+const NODE: usize = 31;
+/// What a lent output is filled with.
+const OUTPUT_FILL: u8 = 0xEE;
+
+/// Takes bytes into a digest.
+fn digest(mut digest: u64, bytes: &[u8]) -> u64 {
+    for &byte in bytes {
+        digest = (digest * 31 + byte as u64 + 1) % 4_294_967_291;
+    }
+    digest
+}
+
+/// The four bytes from a place on as a number, high byte first.
+fn number(bytes: &[u8], at: usize) -> u32 {
+    u32::from_be_bytes(bytes[at..at + 4].try_into().unwrap())
+}
+
+/// The bytes from a place on, as many as another byte says, at most 20.
+fn part(record: &[u8], at: usize, length: u8) -> &[u8] {
+    &record[at..at + length.min(20) as usize]
+}
+
+/// A tidied record as NODE. What is staged is 0 where it means nothing.
+fn node_bytes(node: &Node) -> [u8; NODE] {
+    let mut bytes = [0; NODE];
+    bytes[0] = node.uart as u8;
+    bytes[1..7].copy_from_slice(&node.fixed);
+    bytes[7..9].copy_from_slice(&node.own);
+    bytes[9] = node.count;
+    bytes[10..24].copy_from_slice(&node.held[..HELD]);
+    bytes[24] = node.mode as u8;
+    if node.mode == Mode::Programming && node.command != Command::Nothing {
+        bytes[25] = node.command as u8;
+        bytes[26] = (node.address >= EEPROM_FIRST) as u8;
+        bytes[27..].copy_from_slice(&node.address.to_be_bytes());
+    }
+    bytes
+}
+
+/// The record of a hand-in, untidied. A record of the peer has no kind of address beside the
+/// number, so that a number of the other kind is handed in as nothing.
+fn node_of(b: &[u8]) -> Node {
+    let address = number(b, 27);
+    let command = match b[25] {
+        3 => Command::Erase,
+        1 | 2 if (b[26] != 0) != (address >= EEPROM_FIRST) => Command::Nothing,
+        1 => Command::Read,
+        2 => Command::Write,
+        _ => Command::Nothing,
+    };
+    let mut held = [0; 16];
+    held[..HELD].copy_from_slice(&b[10..24]);
+    Node {
+        held,
+        count: b[9],
+        uart: b[0] != 0,
+        mode: match b[24] {
+            0 => Mode::Normal,
+            1 => Mode::Started,
+            2 => Mode::Programming,
+            3 => Mode::Error,
+            _ => Mode::Waiting,
+        },
+        command,
+        own: [b[7], b[8]],
+        address,
+        fixed: b[1..7].try_into().unwrap(),
+    }
+}
+
+/// An answer in the making.
+struct Line {
+    bytes: [u8; 80],
+    length: usize,
+}
+
+impl Line {
+    fn of(head: &[u8]) -> Line {
+        let mut line = Line { bytes: [0; 80], length: 0 };
+        line.add(head);
+        line
+    }
+
+    fn add(&mut self, bytes: &[u8]) {
+        self.bytes[self.length..][..bytes.len()].copy_from_slice(bytes);
+        self.length += bytes.len();
+    }
+
+    fn bytes(&self) -> &[u8] {
+        &self.bytes[..self.length]
+    }
+}
+
+struct Session {
+    flash: [u8; FLASH_CELLS + 1],
+    eeprom: [u8; EEPROM_CELLS + 1],
+    lent: [usize; 2],
+    node: Node,
+    number: u32,
+    events: u64,
+    full: u64,
+    digest: u64,
+    /// How often restart, CAN frame and UART byte gave each number.
+    counts: [u64; 26],
+}
+
+impl Session {
+    fn new() -> Session {
+        Session {
+            flash: [0; FLASH_CELLS + 1],
+            eeprom: [0; EEPROM_CELLS + 1],
+            lent: [FLASH_CELLS, EEPROM_CELLS],
+            node: Node::fresh([0; 6]),
+            number: 0,
+            events: 0,
+            full: 0,
+            digest: 0,
+            counts: [0; 26],
+        }
+    }
+
+    /// Does the event of a record; gives its answer where it has one.
+    fn event(&mut self, b: &[u8]) -> Option<Line> {
+        let flash = &mut self.flash[..self.lent[0]];
+        let eeprom = &mut self.eeprom[..self.lent[1]];
+        let mut space = [OUTPUT_FILL; 20];
+        let mut line;
+        match b[0] {
+            0x01 => {
+                let number = self.node.restart(b[1] != 0, b[2] == 0, flash, eeprom);
+                self.counts[number as usize] += 1;
+                line = Line::of(&[b[0], number]);
+                line.add(&node_bytes(&self.node));
+            }
+            0x02 => {
+                let mut replies = [OUTPUT_FILL; 24];
+                let answer = self.node.can_frame(part(b, 2, b[1]), flash, eeprom, &mut replies);
+                self.counts[2 + answer.number as usize] += 1;
+                line = Line::of(&[b[0], answer.number, answer.count]);
+                line.add(&replies);
+                line.add(&node_bytes(&self.node));
+            }
+            0x03 => {
+                let mut replies = [OUTPUT_FILL; 30];
+                let answer = self.node.uart_byte(b[1], flash, eeprom, &mut replies);
+                self.counts[14 + answer.number as usize] += 1;
+                line = Line::of(&[b[0], answer.number, answer.count]);
+                line.add(&replies);
+                line.add(&node_bytes(&self.node));
+            }
+            0x04 => {
+                let address = number(b, 1);
+                if flash.len() != FLASH_CELLS || eeprom.len() != EEPROM_CELLS {
+                    line = Line::of(&[b[0], 1, 0]);
+                } else {
+                    match rule(address, 1) {
+                        None => line = Line::of(&[b[0], 8, 0]),
+                        Some(memory) => {
+                            line = Line::of(&[b[0], 0, 8]);
+                            line.add(match memory {
+                                Memory::Flash => &flash[address as usize..][..8],
+                                Memory::Eeprom => &eeprom[(address - EEPROM_FIRST) as usize..][..8],
+                            });
+                        }
+                    }
+                }
+            }
+            0x0A => {
+                let output = &mut space[..b[6].min(20) as usize];
+                let number = to_hapcan(number(b, 1), part(b, 7, b[5]), output);
+                line = Line::of(&[b[0], number]);
+                line.add(output);
+            }
+            0x0B => {
+                let output = &mut space[..b[2].min(20) as usize];
+                let (number, identifier) = to_can(part(b, 3, b[1]), output);
+                line = Line::of(&[b[0], number]);
+                line.add(&identifier.to_be_bytes());
+                line.add(output);
+            }
+            0x0C | 0x0D => {
+                let call = if b[0] == 0x0C { wrap } else { unwrap };
+                let output = &mut space[..b[2].min(20) as usize];
+                line = Line::of(&[b[0], call(part(b, 3, b[1]), output)]);
+                line.add(output);
+            }
+            0x0E => {
+                line = match rule(number(b, 1), number(b, 5)) {
+                    Some(Memory::Flash) => Line::of(&[b[0], 0, 0]),
+                    Some(Memory::Eeprom) => Line::of(&[b[0], 0, 1]),
+                    None => Line::of(&[b[0], 8, 2]),
+                };
+            }
+            _ => {
+                self.arrange(b);
+                return None;
+            }
+        }
+        self.events += 1;
+        self.digest = digest(self.digest, line.bytes());
+        Some(line)
+    }
+
+    /// Does an event that has no answer.
+    fn arrange(&mut self, b: &[u8]) {
+        match b[0] {
+            0x05 => self.node = node_of(&b[1..]),
+            0x06 => {
+                let above_fewer = |choice| [1, 0, 2][usize::from(u8::min(choice, 2))];
+                self.lent =
+                    [FLASH_CELLS - 1 + above_fewer(b[1]), EEPROM_CELLS - 1 + above_fewer(b[2])];
+            }
+            0x07 => {
+                let address = number(b, 1);
+                let cell = match address.checked_sub(EEPROM_FIRST) {
+                    Some(place) => self.eeprom.get_mut(place as usize),
+                    None => self.flash.get_mut(address as usize),
+                };
+                if let Some(cell) = cell {
+                    *cell = b[5];
+                }
+            }
+            0x08 => {
+                self.flash.fill(b[1]);
+                self.eeprom.fill(b[2]);
+                self.lent = [FLASH_CELLS, EEPROM_CELLS];
+                self.node = Node::fresh(b[3..9].try_into().unwrap());
+                self.number += 1;
+                self.events = 0;
+                self.full = u16::from_be_bytes([b[9], b[10]]) as u64;
+                self.digest = 0;
+                self.counts = [0; 26];
+            }
+            _ => {}
+        }
+    }
+
+    /// Prints the closing line.
+    fn close(&self, out: &mut impl Write) -> io::Result<()> {
+        let (flash, eeprom) = (digest(0, &self.flash), digest(0, &self.eeprom));
+        write!(out, "session {} events {} digest {}", self.number, self.events, self.digest)?;
+        write!(out, " flash {flash} eeprom {eeprom}")?;
+        for (word, from, to) in [("restart", 0, 2), ("can", 2, 14), ("uart", 14, 26)] {
+            write!(out, " {word}")?;
+            for count in &self.counts[from..to] {
+                write!(out, " {count}")?;
+            }
+        }
+        writeln!(out)
+    }
+}
+
+/// Answers the events of a session stream.
+fn answer(stream: &[u8], out: &mut impl Write) -> io::Result<()> {
+    let mut session = Session::new();
+    for record in stream.chunks_exact(RECORD) {
+        if record[0] == 0x09 {
+            session.close(out)?;
+        } else if let Some(line) = session.event(record) {
+            if session.events <= session.full {
+                line.bytes().iter().try_for_each(|byte| write!(out, "{byte:02x}"))?;
+                writeln!(out)?;
+            }
+        }
+    }
+    Ok(())
+}
+
+/// Translates a recipe, hands its frames to a node, and prints the line.
+fn apply(h: &[u8], recipe: &[u8], output: &mut [u8], out: &mut impl Write) -> io::Result<()> {
+    output.fill(OUTPUT_FILL);
+    let count = match translate(recipe, output) {
+        Ok(count) => count,
+        Err((number, place)) => {
+            let frames = digest(0, output);
+            write!(out, "number {number} place {place} frames {frames}")?;
+            return writeln!(out, " answers 0 flash 0 eeprom 0 node 0");
+        }
+    };
+    let mut flash = [h[2]; FLASH_CELLS];
+    let mut eeprom = [h[3]; EEPROM_CELLS];
+    (eeprom[BOOTFL], eeprom[MODULE], eeprom[GROUP]) = (0xFF, h[4], h[5]);
+    let mut node = Node::fresh([0; 6]);
+    node.restart(true, true, &flash, &eeprom);
+    let mut answers = 0;
+    for frame in output[..12 * count].chunks_exact(12) {
+        if h[1] == 0 {
+            let mut replies = [OUTPUT_FILL; 24];
+            let answer = node.can_frame(frame, &mut flash, &mut eeprom, &mut replies);
+            answers = digest(digest(answers, &[answer.number, answer.count]), &replies);
+            continue;
+        }
+        let mut wrapped = [0; 15];
+        wrap(frame, &mut wrapped);
+        for byte in wrapped {
+            let mut replies = [OUTPUT_FILL; 30];
+            let answer = node.uart_byte(byte, &mut flash, &mut eeprom, &mut replies);
+            answers = digest(digest(answers, &[answer.number, answer.count]), &replies);
+        }
+    }
+    write!(out, "number 0 place {count} frames {} answers {answers}", digest(0, output))?;
+    write!(out, " flash {} eeprom {}", digest(0, &flash), digest(0, &eeprom))?;
+    writeln!(out, " node {}", digest(0, &node_bytes(&node)))
+}
+
+/// Applies the recipes of a stream.
+fn apply_recipes(stream: &[u8], out: &mut impl Write) -> io::Result<()> {
+    let mut space = vec![0; 441_948];
+    let mut rest = stream;
+    let mut recipe = 0;
+    while let Some((header, behind)) = rest.split_at_checked(RECORD) {
+        rest = behind;
+        if header[0] != 0x20 {
+            continue;
+        }
+        let length = (number(header, 6) as usize).min(behind.len());
+        let output = &mut space[..number(header, 10) as usize];
+        recipe += 1;
+        write!(out, "recipe {recipe} ")?;
+        apply(header, &behind[..length], output, out)?;
+        rest = &behind[length.next_multiple_of(RECORD).min(behind.len())..];
+    }
+    Ok(())
+}
+
+fn main() -> io::Result<()> {
+    let mut stream = Vec::new();
+    io::stdin().lock().read_to_end(&mut stream)?;
+    let mut out = BufWriter::new(io::stdout().lock());
+    match std::env::args().nth(1).as_deref() {
+        Some("answer") => answer(&stream, &mut out)?,
+        Some("apply-recipes") => apply_recipes(&stream, &mut out)?,
+        _ => return Err(io::Error::other("peer answer < sessions, peer apply-recipes < recipes")),
+    }
+    out.flush()
+}
