@@ -5,8 +5,8 @@ mod handing;
 ghost use mathlib.Core.Path.{_≡_};
 ghost use lib.ListN.{length};
 ghost use Rattle.update_deliver.specs.Delivering.{roomFor, left, deliverStep};
-use recipe::Translated;
 use node_rules::Node;
+use recipe::Translated;
 
 // What a delivery answers: the translator's answer, the node afterwards, and how many answers were told.
 pub struct Delivered {

@@ -1,5 +1,5 @@
--- The laws of any delivery, whatever the frames: nothing, one frame, one list behind another, and each list taken apart anywhere. A delivery
--- is one fold over the frames, so each law is that of the fold. And what none changes, frame by frame.
+-- The laws of any delivery, whatever the frames: nothing, one frame, one list behind another, and each list taken apart anywhere. A
+-- delivery is one fold over the frames, so each law is that of the fold. And what none changes, frame by frame.
 -- Assumes nothing.
 use mathlib.Core.Path.{_≡_, _∙_, refl, sym, ap}
 use mathlib.Core.List.{List, [], _∷_, _++_}

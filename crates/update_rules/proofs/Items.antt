@@ -1,6 +1,6 @@
 -- A legal item's frames to a programming node leave what the item says when it is read plainly, and each is answered by itself with the
--- flag set; and so do the frames of any number of legal items. Whatever is staged before and between, it is the same: an item's frames stage
--- their own commands.
+-- flag set; and so do the frames of any number of legal items. Whatever is staged before and between, it is the same: an item's frames
+-- stage their own commands.
 -- Assumes nothing.
 use mathlib.Core.Path.{_≡_, _∙_, refl, sym, ap, subst}
 use mathlib.Core.Bool.{true}
@@ -27,15 +27,15 @@ use Rattle.update_rules.proofs.Rows.{both, carries-nothing, carries-beh
 
 module _ (n : Node) where
   -- the frames of an item, and of items, to this node
-  abbrev framesTo : Item → List (List ℕ)
+  abbrev pub framesTo : Item → List (List ℕ)
   framesTo i = itemFrames (n .plate .own .0) (n .plate .group .0) i
 
-  abbrev allTo : List Item → List (List ℕ)
+  abbrev pub allTo : List Item → List (List ℕ)
   allTo is = itemsFrames (n .plate .own .0) (n .plate .group .0) is
 
   module _ (flash eeprom : List ℕ) (l : length flash ≡ 65536) (k : length eeprom ≡ 1024) where
     -- "Block 18: erase, then 8 writes upward"
-    block-carries : (a : ℕ) (d : List ℕ) → LegalItem (block a d) → (s : Staged) → legalStaged s ≡ true
+    pub block-carries : (a : ℕ) (d : List ℕ) → LegalItem (block a d) → (s : Staged) → legalStaged s ≡ true
         → Carries n (framesTo (block a d)) s (both flash eeprom) (both (patch flash a d) eeprom)
     unfolding itemFrames patch
     block-carries a d h s legal =
@@ -58,7 +58,7 @@ module _ (n : Node) where
         (simp length-take (omega arith)) (λ i lt. block-rows a i (h .0) lt) (h .1) (h .2) c lawful)))
 
     -- "Row 2"
-    row-carries : (a : ℕ) (d : List ℕ) → LegalItem (row a d) → (s : Staged) → legalStaged s ≡ true
+    pub row-carries : (a : ℕ) (d : List ℕ) → LegalItem (row a d) → (s : Staged) → legalStaged s ≡ true
         → Carries n (framesTo (row a d)) s (both flash eeprom) (both flash (patch eeprom (eepromCell a) d))
     unfolding itemFrames
     row-carries a d h s legal =

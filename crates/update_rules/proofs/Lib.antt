@@ -7,3 +7,4 @@ pub mod Corollaries
 pub mod Prefixes
 pub mod Interrupted
 pub mod Serially
+pub mod Witnesses

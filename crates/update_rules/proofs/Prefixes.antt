@@ -85,7 +85,8 @@ module _ (r : Recipe) where
       more (erasing a (replicate 8 0xFF) refl (h .0) outside)
       (rows-paired a outside 8 a d (omega arith) (omega arith) (λ i lt. block-rows a i (h .0) lt) (h .1))
   item-paired (row a d) h _ o =
-      let outside : (c : ℕ) → Each (OutsideEeprom c) (r .items) → (c < eepromCell a) ⊎ (eepromCell a + 8 ≤ c) = λ c e. rw (h .1) at (o c e) in
+      let outside : (c : ℕ) → Each (OutsideEeprom c) (r .items) → (c < eepromCell a) ⊎ (eepromCell a + 8 ≤ c) =
+      λ c e. rw (h .1) at (o c e) in
       more (replacing a d (h .1) (h .0) outside) none
 
   items-paired : (is : List Item) → LegalItems is → ((c : ℕ) → Each (OutsideFlash c) (r .items) → Each (OutsideFlash c) is)

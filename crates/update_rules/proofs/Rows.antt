@@ -1,6 +1,6 @@
--- A pair of frames to a programming node, then the eight writes of a Block over its erased cells: each pair is answered by itself with the
--- flag set, whatever was staged before, and leaves the node programming. A pair is the laws of its two frames, and rows are pairs one behind
--- another, FLASH taken in three parts.
+-- A pair of frames to a programming node, then the eight writes of a Block over its erased cells: each pair is answered by itself with
+-- the flag set, whatever was staged before, and leaves the node programming. A pair is the laws of its two frames, and rows are pairs one
+-- behind another, FLASH taken in three parts.
 -- Assumes nothing.
 use mathlib.Core.Path.{_≡_, _∙_, refl, sym, ap, subst}
 use mathlib.Core.Bool.{true}

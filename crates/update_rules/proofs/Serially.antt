@@ -70,7 +70,8 @@ told-wrapped a l =
     ∙ ap (λ (x : List ℕ). cond (eqb (a .count) 0) (replicate 15 0) (wrappedOf x)) (listed-part (a .replies) 0 12 l))
   where
     go : (w : List ℕ) → length w ≡ 15 → (b c : Bool)
-        → take 15 (cond b (replicate 30 0) (cond c (w ++ replicate 15 0) (w ++ wrappedOf (listed (a .replies) 12 12)))) ≡ cond b (replicate 15 0) w
+        → take 15 (cond b (replicate 30 0) (cond c (w ++ replicate 15 0) (w ++ wrappedOf (listed (a .replies) 12 12))))
+        ≡ cond b (replicate 15 0) w
     go w k true c = refl
     go w k false true = take-at w (replicate 15 0) 15 k
     go w k false false = take-at w (wrappedOf (listed (a .replies) 12 12)) 15 k
@@ -140,11 +141,14 @@ serial (f ∷ fs) h n flash eeprom o zero =
     let s = canStep n f flash eeprom in
     let next = stays-open before f o in
     let front = 0xAA ∷ f ++ (sumOf f % 256 ∷ []) in
+    let last = toldOnUart (onUart (s .answer)) in
+    let others = fed (wrappedAll fs) (s .answer .node) (s .flash) (s .eeprom) in
     let long : length front ≡ 14 = omega (arith, length-append f (sumOf f % 256 ∷ []), h .0) in
     ap (deliveryOnUart before)
-    (wrapped-frame n flash eeprom (o .flashFull) (o .eepromFull) (o .bothPorts) (heard before f o (zero .0)) (o .noneHeld) f (wrappedAll fs) (h .0))
+    (wrapped-frame n flash eeprom (o .flashFull) (o .eepromFull) (o .bothPorts) (heard before f o (zero .0)) (o .noneHeld) f (wrappedAll fs)
+    (h .0))
     ∙ collected-told (tidied n) [] front flash eeprom (viaUart s ∷ bytesIn (wrappedAll fs) (behindFrame s)) before
-    ∙ ap (λ (k : ℕ). behind (replicate k incompleteTold) (behind (toldOnUart (onUart (s .answer)) ∷ []) (fed (wrappedAll fs) (s .answer .node) (s .flash) (s .eeprom)))) long
+    ∙ ap (λ (k : ℕ). behind (replicate k incompleteTold) (behind (last ∷ []) others)) long
     ∙ ap₂ (λ (t : List ℕ) (d : Delivery). behind (replicate 14 incompleteTold) (behind (t ∷ []) d))
     (told-wrapped (s .answer) (room-for-one before f))
     (serial fs (h .1) (s .answer .node) (s .flash) (s .eeprom) next (zero .1))
