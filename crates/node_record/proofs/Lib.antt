@@ -1,2 +1,3 @@
 pub mod Kept
+pub mod Tidied
 pub mod Tight

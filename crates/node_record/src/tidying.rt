@@ -1,42 +1,50 @@
-// The parts of a record: how many held bytes count, which bytes are kept, and the mode with what is staged.
+// The parts of a record that can be untidy: the held bytes, and what is staged.
 ghost use mathlib.Core.Path.{_≡_};
-ghost use mathlib.Core.List.{_++_};
-ghost use Prim.Native.Nat.{_-_, _≤_};
-ghost use lib.ListN.{take, replicate};
-ghost use Rattle.node_rules.specs.Record.{legalAt, legalStaged, tidyMode};
-ghost use Rattle.node_record.specs.Held.{heldCount};
+ghost use mathlib.Core.List.{[]};
+ghost use Rattle.node_rules.specs.Record.{receiving, heldIn, legalAt, legalStaged};
+ghost use Rattle.node_record.specs.Tidy.{isTidy};
 use memory_address::Address;
 use memory_address::ERASE;
 use memory_address::READ;
 use memory_address::WRITE;
 use node_rules::Mode;
+use node_rules::Receiver;
 use node_rules::Staged;
 
-// How many held bytes count.
-pub fn held_count(held: [u8; 15], count: usize) -> usize
-    ensures { λ r. ⌜ (r ≡ heldCount held count) × (r ≤ 14) ⌝ }
+// Nothing held.
+pub fn none_held() -> Receiver
+    ensures { λ r. ⌜ r ≡ receiving [] ⌝ }
 {
-    if 14 < count {
-        return 0;
+    Receiver {
+        held: [0; 15],
+        count: 0,
     }
-    if held[0] == 0xAA {
-        return count;
-    }
-    0
 }
 
-// The first `count` bytes, and 0 behind them.
-pub fn kept(held: [u8; 15], count: usize) -> [u8; 15]
-    requires { ⌜ count ≤ 14 ⌝ }
-    ensures { λ r. ⌜ r ≡ take count held ++ replicate (15 - count) 0 ⌝ }
+// What is held, and 0 behind it: more than 14 bytes, or bytes not starting with 0xAA, count as none.
+pub fn tidy_receiver(r: Receiver) -> Receiver
+    ensures { λ t. ⌜ t ≡ receiving (heldIn r) ⌝ }
 {
-    let mut bytes = held;
-    let mut i = count;
+    let count = r.count;
+    if count == 0 {
+        return none_held();
+    }
+    if 14 < count {
+        return none_held();
+    }
+    let bytes = r.held;
+    if bytes[0] != 0xAA {
+        return none_held();
+    }
+    let mut t = r;
+    let mut i = 1;
     while i < 15 {
-        bytes[i] = 0;
+        if count <= i {
+            t.held[i] = 0;
+        }
         i += 1;
     }
-    bytes
+    t
 }
 
 // Whether a command is legal at an address of either kind.
@@ -49,6 +57,7 @@ fn legal_at(a: Address, command: u32) -> bool
     }
 }
 
+// Whether a command may be staged; nothing may.
 fn legal_staged(s: Staged) -> bool
     ensures { λ r. ⌜ r ≡ legalStaged s ⌝ }
 {
@@ -60,19 +69,14 @@ fn legal_staged(s: Staged) -> bool
     }
 }
 
-// The mode in which a staged command that isn't legal counts as none.
-pub fn tidy_mode(m: Mode) -> Mode
-    ensures { λ r. ⌜ r ≡ tidyMode m ⌝ }
+// Whether a mode is tidy: nothing is staged that isn't legal.
+pub fn is_tidy(m: Mode) -> bool
+    ensures { λ r. ⌜ r ≡ isTidy m ⌝ }
 {
     match m {
-        Mode::Normal(started) => Mode::Normal(started),
-        Mode::Programming(s) => {
-            if legal_staged(s) {
-                return Mode::Programming(s);
-            }
-            Mode::Programming(Staged::Nothing)
-        }
-        Mode::Error => Mode::Error,
-        Mode::Waiting => Mode::Waiting,
+        Mode::Normal(_) => true,
+        Mode::Programming(s) => legal_staged(s),
+        Mode::Error => true,
+        Mode::Waiting => true,
     }
 }

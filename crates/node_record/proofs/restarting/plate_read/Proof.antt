@@ -1,8 +1,8 @@
--- `node_restart::node_after` meets its contract: the record is written out.
+-- `node_record::restarting::plate_read` meets its contract: the plate is written out.
 -- Assumes nothing.
 use borrow.Author.Needs.{needs}
-use Rattle.node_restart.proofs.node_after.Statement.{statement}
-use Rattle.node_restart.proofs.node_after.Tie as tie
+use Rattle.node_record.proofs.restarting.plate_read.Statement.{statement}
+use Rattle.node_record.proofs.restarting.plate_read.Tie as tie
 
 sub-module-at : tie.Need-sub-module-at
 sub-module-at c = search needs
@@ -22,14 +22,11 @@ byte-at-requires c κs = search needs
 byte-at-requires-2 : tie.Need-byte-at-requires-2
 byte-at-requires-2 c κs = search needs
 
-mode-after-requires : tie.Need-mode-after-requires
-mode-after-requires c κs = search needs
-
 returns : tie.Need-returns
-returns c = simp (c .before .before .byte-at .ensures, c .before .byte-at2 .ensures, c .mode-after .ensures)
+returns c = simp (c .before .byte-at .ensures, c .byte-at2 .ensures)
 
-pub node-after-spec : {M : Type 1} → statement M
-node-after-spec =
+pub plate-read-spec : {M : Type 1} → statement M
+plate-read-spec =
     tie.close
     (tie.spec
     sub-module-at
@@ -38,5 +35,4 @@ node-after-spec =
     cast-group-at
     byte-at-requires
     byte-at-requires-2
-    mode-after-requires
     returns)

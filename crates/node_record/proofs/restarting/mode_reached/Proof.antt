@@ -1,9 +1,9 @@
--- `node_restart::mode_after` meets its contract: the tests are those of the restart rule.
+-- `node_record::restarting::mode_reached` meets its contract: the tests are those of the restart rule.
 -- Assumes nothing.
 use borrow.Author.Tests.{eq-eqb, ne-eqb}
 use borrow.Author.Needs.{needs}
-use Rattle.node_restart.proofs.mode_after.Statement.{statement}
-use Rattle.node_restart.proofs.mode_after.Tie as tie
+use Rattle.node_record.proofs.restarting.mode_reached.Statement.{statement}
+use Rattle.node_record.proofs.restarting.mode_reached.Tie as tie
 
 sub-at : tie.Need-sub-at
 sub-at c = search needs
@@ -26,7 +26,7 @@ returns-2 c = simp (c .before .before .before .before .if1 .taken, ← c .before
 returns-3 : tie.Need-returns-3
 returns-3 c = search needs
 
-pub mode-after-spec : {M : Type 1} → statement M
-mode-after-spec =
+pub mode-reached-spec : {M : Type 1} → statement M
+mode-reached-spec =
     tie.close
     (tie.spec sub-at cast-at byte-at-requires returns firmware-starts-requires returns-2 returns-3)
