@@ -30,7 +30,7 @@ use Rattle.recipe_translate.proofs.translate.Kinds as translate-kinds
 use Rattle.recipe_translate.proofs.translate.Reads as translate-reads
 use Rattle.recipe_translate.proofs.Translating.{accepts-every-legal, refuses-short-output, accepts-only-legal}
 use Rattle.update_deliver.specs.Delivery.{Delivery, told, behind, followed, delivered}
-use Rattle.update_deliver.specs.Taken.{framesIn}
+use Rattle.update_deliver.specs.Taken.{firstFrames}
 use Rattle.update.specs.Updated.{Ready, updated}
 use Rattle.update.proofs.AnswerThree.{answer-three}
 use Rattle.update.proofs.Taking.{recipe-taken}
@@ -61,11 +61,11 @@ module _ (κs : Lfts 2) (a : ArgsD translate-signature κs) (r : ResD translate-
   -- a call of the translator on a legal recipe's bytes, with room, and then a run over the frames in its output
   pub answer-three-calls : (q : Recipe) → Legal q → (a .0) .now ≡ printed q → 12 * frameCount q ≤ length ((a .1 .0) .now)
       → (n : Node) (m : Memories) (d : Delivery) → Ready n q → length (m .flash) ≡ flashCells → length (m .eeprom) ≡ eepromCells
-      → Run (framesIn (frameCount q) ((s .1 .0) .now)) n (m .flash) (m .eeprom) d
+      → Run (firstFrames (frameCount q) ((s .1 .0) .now)) n (m .flash) (m .eeprom) d
       → (r ≡ Frames (frameCount q)) × (d ≡ updated q n m)
   answer-three-calls q legal e room n m d ready l k run =
       let t = accepts-every-legal κs a r s p q legal e room in
-      let same : framesIn (frameCount q) ((s .1 .0) .now) ≡ framesOf q = ap (framesIn (frameCount q)) (t .1) ∙ recipe-taken q _ legal in (
+      let same : firstFrames (frameCount q) ((s .1 .0) .now) ≡ framesOf q = ap (firstFrames (frameCount q)) (t .1) ∙ recipe-taken q _ legal in (
         t .0,
         run-delivered run
             ∙ ap (λ (fs : List (List ℕ)). delivered fs n (m .flash) (m .eeprom)) same
@@ -86,7 +86,7 @@ module _ (κs : Lfts 2) (a : ArgsD translate-signature κs) (r : ResD translate-
   -- whatever bytes the translator accepted, and then a run over the frames in its output
   pub answer-three-accepted : Bytes ((a .0) .now) → (count : ℕ) → r ≡ Frames count
       → (n : Node) (m : Memories) (d : Delivery) → Ready n (recipeOf ((a .0) .now)) → length (m .flash) ≡ flashCells
-      → length (m .eeprom) ≡ eepromCells → Run (framesIn count ((s .1 .0) .now)) n (m .flash) (m .eeprom) d
+      → length (m .eeprom) ≡ eepromCells → Run (firstFrames count ((s .1 .0) .now)) n (m .flash) (m .eeprom) d
       → Legal (recipeOf ((a .0) .now)) × ((a .0) .now ≡ printed (recipeOf ((a .0) .now))) × (d ≡ updated (recipeOf ((a .0) .now)) n m)
   answer-three-accepted bytes count f n m d ready l k run =
       let o = accepts-only-legal κs a r s p bytes count f in
@@ -95,5 +95,5 @@ module _ (κs : Lfts 2) (a : ArgsD translate-signature κs) (r : ResD translate-
         o .0,
         o .1,
         answer-three-calls q (o .0) (o .1) room n m d ready l k
-            (subst (λ (c : ℕ). Run (framesIn c ((s .1 .0) .now)) n (m .flash) (m .eeprom) d) (o .3) run) .1,
+            (subst (λ (c : ℕ). Run (firstFrames c ((s .1 .0) .now)) n (m .flash) (m .eeprom) d) (o .3) run) .1,
       )

@@ -24,7 +24,7 @@ use Rattle.recipe.specs.Translation.{checked, translated}
 use Rattle.recipe.proofs.Accepts.{accepts-legal, output-legal, short-output}
 use Rattle.recipe.proofs.Answers.{refusal-first}
 use Rattle.update_deliver.specs.Delivery.{Delivery, delivered}
-use Rattle.update_deliver.specs.Delivering.{Left, handedBy, handedOver, roomFor, left, leftBy, deliverBy, deliverStep}
+use Rattle.update_deliver.specs.Delivering.{Left, handedBy, handedOver, roomFor, left, afterHandOver, deliverBy, deliverStep}
 use Rattle.update.specs.Updated.{Ready, wholly}
 use Rattle.update.proofs.AnswerThree.{answer-three}
 use Rattle.update_deliver.proofs.Outcome.{room-within}
@@ -56,8 +56,8 @@ module _ (q : Recipe) (legal : Legal q) (n : Node) (frames answers : List ℕ) w
       let output = joined (framesOf q) ++ drop (12 * frameCount q) frames in
       ap (λ (t : Translated). deliverBy t (printed q) n (m .flash) (m .eeprom) frames answers)
       (accepts-legal q legal (roomFor (length frames) (length answers)) room)
-      ∙ ap (λ (fs : List ℕ). leftBy (frameCount q) fs (handedOver (frameCount q) fs n (m .flash) (m .eeprom) answers)) (output-legal q legal frames)
-      ∙ ap (λ (d : Delivery). leftBy (frameCount q) output (handedBy d (frameCount q) answers))
+      ∙ ap (λ (fs : List ℕ). afterHandOver (frameCount q) fs (handedOver (frameCount q) fs n (m .flash) (m .eeprom) answers)) (output-legal q legal frames)
+      ∙ ap (λ (d : Delivery). afterHandOver (frameCount q) output (handedBy d (frameCount q) answers))
       (ap (λ (fs : List (List ℕ)). delivered fs n (m .flash) (m .eeprom)) (recipe-taken q (drop (12 * frameCount q) frames) legal)
       ∙ answer-three q n m legal ready l k)
 

@@ -1,4 +1,3 @@
-pub mod Told
 pub mod Turns
 pub mod Outcome
 pub mod Tight

@@ -1,4 +1,4 @@
-// A recipe delivered to a node: it is translated, and its frames are handed over one by one. What the node then holds is answer three, in
+// A recipe delivered to a node: it is translated, and its frames are handed over one by one. What the node then holds is demand 3, in
 // crate update.
 mod handing;
 

@@ -1,3 +1,4 @@
+pub mod Told
 pub mod Deliveries
 pub mod Rows
 pub mod Items
