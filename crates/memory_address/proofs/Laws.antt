@@ -1,16 +1,17 @@
 -- The laws of the address rule, by which every other crate knows it: where the cells of a legal command lie, which cells no write or
--- erase covers, and that what may be erased may be written, and what may be written be read. Each holds of the rule because it holds
--- of its three parts, the row to read, the row to write and the block to erase; only the laws of the parts look at their bounds.
+-- erase covers, and that what may be erased may be written, and what may be written be read; and the one test of a number that each
+-- part is in each memory. Each holds of the rule because it holds of its three parts, the row to read, the row to write and the block
+-- to erase; only the laws of the parts look at their bounds.
 -- No law of another crate opens the rule: beside these, only examples that are computed do.
 -- Assumes nothing.
-use mathlib.Core.Path.{_≡_, refl, ap}
+use mathlib.Core.Path.{_≡_, refl, ap, sym}
 use mathlib.Core.Bool.{Bool, true, false, cond, false≢true}
 use Prim.Native.Nat.{ℕ, _+_, _-_, _*_, _%_, _≤_, _<_}
 use native.Mathlib.Nat.{suc-ne-zero}
 use native.Mathlib.Omega.{arith}
 use mathlib.Core.Logic.{_⊎_, inl, inr}
 use lib.Dec.{leb, eqb}
-use borrow.Author.Tests.{leb-true, ltb-true, ltb-false, eqb-true, eq-eqb, le-leb, lt-ltb}
+use borrow.Author.Tests.{leb-true, ltb-true, ltb-false, eqb-true, eq-eqb, le-leb, lt-leb, lt-ltb}
 use Rattle.base.proofs.Choice.{by-cond, both-true, true-both}
 use Rattle.memory_address.specs.declared.Address.the-variants.{Flash, Eeprom}
 use Rattle.memory_address.specs.declared.Ruled.{Ruled}
@@ -61,6 +62,40 @@ block-within a =
     by-cond (Within 64 a) (multipleIn 64 rim lastBlock a) _ _
     (λ t. let m = multiple-in 64 rim lastBlock a t in (refl, omega arith, omega arith))
     (λ _. tt)
+
+-- whether a row lies in FLASH, or in EEPROM, is one test: a number that is a row of FLASH is no row of EEPROM
+row-flash : (a : ℕ) → isFlash (rowOf a) ≡ multipleIn 8 rim lastFlashRow a
+row-flash a =
+    by-cond (λ (r : Ruled). isFlash r ≡ multipleIn 8 rim lastFlashRow a) (multipleIn 8 rim lastFlashRow a) _ _
+    (λ t. sym t)
+    (λ f.
+    by-cond (λ (r : Ruled). isFlash r ≡ multipleIn 8 rim lastFlashRow a) (multipleIn 8 firstEepromRow lastEepromRow a) _ _
+    (λ _. sym f) (λ _. sym f))
+
+row-eeprom : (a : ℕ) → isEeprom (rowOf a) ≡ multipleIn 8 firstEepromRow lastEepromRow a
+row-eeprom a =
+    by-cond (λ (r : Ruled). isEeprom r ≡ multipleIn 8 firstEepromRow lastEepromRow a) (multipleIn 8 rim lastFlashRow a) _ _
+    (λ t. let m = multiple-in 8 rim lastFlashRow a t in simp (lt-leb firstEepromRow a (omega arith)))
+    (λ _.
+    by-cond (λ (r : Ruled). isEeprom r ≡ multipleIn 8 firstEepromRow lastEepromRow a) (multipleIn 8 firstEepromRow lastEepromRow a) _ _
+    (λ t. sym t) (λ f. sym f))
+
+-- and so for each part: these are the tests of `legal_flash` and `legal_eeprom`
+pub read-flash : (a : ℕ) → isFlash (readRow a) ≡ multipleIn 8 rim lastFlashRow a
+read-flash a = row-flash a
+
+pub read-eeprom : (a : ℕ) → isEeprom (readRow a) ≡ multipleIn 8 firstEepromRow lastEepromRow a
+read-eeprom a = row-eeprom a
+
+pub write-flash : (a : ℕ) → isFlash (writeRow a) ≡ multipleIn 8 rim lastFlashRow a
+write-flash a = row-flash a
+
+pub write-eeprom : (a : ℕ) → isEeprom (writeRow a) ≡ multipleIn 8 firstEepromRow lastEepromRow a
+write-eeprom a = row-eeprom a
+
+pub block-flash : (a : ℕ) → isFlash (blockOf a) ≡ multipleIn 64 rim lastBlock a
+block-flash a =
+    by-cond (λ (r : Ruled). isFlash r ≡ multipleIn 64 rim lastBlock a) (multipleIn 64 rim lastBlock a) _ _ (λ t. sym t) (λ f. sym f)
 
 -- a row of FLASH from the rim on may be written
 in-write : (a : ℕ) → 0x001000 ≤ a → a < 0x010000 → a % 8 ≡ 0 → isFlash (writeRow a) ≡ true
@@ -125,15 +160,15 @@ by-command P a command r w b n =
     by-cond P (eqb command 0x02) _ _ (λ t. w (eqb-true command 0x02 t))
     (λ _. by-cond P (eqb command 0x03) _ _ (λ t. b (eqb-true command 0x03 t)) (λ _. n)))
 
-read-ruled : (a : ℕ) → ruled a 0x01 ≡ readRow a
+pub read-ruled : (a : ℕ) → ruled a 0x01 ≡ readRow a
 unfolding ruled
 read-ruled a = refl
 
-write-ruled : (a : ℕ) → ruled a 0x02 ≡ writeRow a
+pub write-ruled : (a : ℕ) → ruled a 0x02 ≡ writeRow a
 unfolding ruled
 write-ruled a = refl
 
-erase-ruled : (a : ℕ) → ruled a 0x03 ≡ blockOf a
+pub erase-ruled : (a : ℕ) → ruled a 0x03 ≡ blockOf a
 unfolding ruled
 erase-ruled a = refl
 
@@ -173,6 +208,15 @@ eeprom-within a command h =
 -- EEPROM has no erase
 pub no-eeprom-erase : (a : ℕ) → legalEeprom a 0x03 ≡ false
 no-eeprom-erase a = rw (erase-ruled a) (no-eeprom-block a)
+
+-- a command other than read, write and erase is legal nowhere, and on EEPROM neither is an erase
+pub no-other-flash : (a command : ℕ) → (command ≡ 0x01 → ⊥) → (command ≡ 0x02 → ⊥) → (command ≡ 0x03 → ⊥) → legalFlash a command ≡ false
+no-other-flash a command r w b =
+    by-command (λ (x : Ruled). isFlash x ≡ false) a command (λ e. absurd (r e)) (λ e. absurd (w e)) (λ e. absurd (b e)) refl
+
+pub no-other-eeprom : (a command : ℕ) → (command ≡ 0x01 → ⊥) → (command ≡ 0x02 → ⊥) → legalEeprom a command ≡ false
+no-other-eeprom a command r w =
+    by-command (λ (x : Ruled). isEeprom x ≡ false) a command (λ e. absurd (r e)) (λ e. absurd (w e)) (λ _. no-eeprom-block a) refl
 
 -- the eight rows of a block that may be erased may be written
 pub block-rows : (a i : ℕ) → legalFlash a 0x03 ≡ true → i < 8 → legalFlash (a + 8 * i) 0x02 ≡ true

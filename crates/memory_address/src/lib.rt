@@ -126,12 +126,12 @@ pub fn rule(address: u32, command: u32) -> Ruled
 pub fn legal_flash(at: FlashAddress, command: u32) -> bool
     ensures { λ r. ⌜ r ≡ legalFlash (at .0) command ⌝ }
 {
-    match rule(at.0, command) {
-        Ruled::Legal(a) => match a {
-            Address::Flash(_) => true,
-            Address::Eeprom(_) => false,
-        },
-        Ruled::Illegal => false,
+    let a = at.0;
+    match command {
+        0x01 => multiple_in(8, RIM, LAST_FLASH_ROW, a),
+        0x02 => multiple_in(8, RIM, LAST_FLASH_ROW, a),
+        0x03 => multiple_in(64, RIM, LAST_BLOCK, a),
+        _ => false,
     }
 }
 
@@ -139,11 +139,10 @@ pub fn legal_flash(at: FlashAddress, command: u32) -> bool
 pub fn legal_eeprom(place: EepromPlace, command: u32) -> bool
     ensures { λ r. ⌜ r ≡ legalEeprom (place .0) command ⌝ }
 {
-    match rule(place.0, command) {
-        Ruled::Legal(a) => match a {
-            Address::Flash(_) => false,
-            Address::Eeprom(_) => true,
-        },
-        Ruled::Illegal => false,
+    let a = place.0;
+    match command {
+        0x01 => multiple_in(8, EEPROM_FIRST, LAST_EEPROM_ROW, a),
+        0x02 => multiple_in(8, EEPROM_FIRST, LAST_EEPROM_ROW, a),
+        _ => false,
     }
 }

@@ -19,13 +19,13 @@ fn accepted(k: Kind, n: Node, frame: &[u8]) -> Effect
     let plate = n.plate;
     let handled = k.handled;
     let addressing = k.addressing;
+    let asks = k.request;
     if !request::handled_here(handled, mode) {
         return asking::refuse(6);
     }
     if !request::is_for(addressing, plate, frame) {
         return asking::refuse(7);
     }
-    let asks = k.request;
     asking::asked_by(asks, mode, frame)
 }
 

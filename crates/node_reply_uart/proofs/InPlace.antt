@@ -23,8 +23,8 @@ last-within true n e = omega arith
 last-within false n e = omega arith
 
 -- what `wrap` leaves of 12 bytes in a room of 15
-pub filled : (f held left : List ℕ) (number : ℕ) → number ≡ wrapNumber f (length held) → left ≡ outputAfter number (wrappedOf f) held
-    → length held ≡ 15 → length f ≡ 12 → left ≡ wrappedOf f
+pub filled : (f held left : List ℕ) (number : ℕ) → number ≡ wrapNumber f (length held)
+    → left ≡ outputAfter number (wrappedOf f) held → length held ≡ 15 → length f ≡ 12 → left ≡ wrappedOf f
 filled f held left number e q h l = let z : number ≡ 0 = e ∙ done-wrap f (length held) h l in rw z at q
 
 -- the first room's cells replaced
@@ -52,7 +52,8 @@ module _ (replies : List ℕ) (full : length replies ≡ 24) where
   pub in-place : (alone : Bool) (n : ℕ) (w v : List ℕ) → n ≡ cond alone 0 1 → w ≡ wrappedOf (part replies 0 12)
       → v ≡ wrappedOf (midOf (12 * n) (12 * n + 12 - 12 * n) replies)
       → putMid (15 * n) (15 * n + 15 - 15 * n) (w ++ replicate 15 0) v
-      ≡ cond alone (wrappedOf (listed replies 0 12) ++ replicate 15 0) (wrappedOf (listed replies 0 12) ++ wrappedOf (listed replies 12 12))
+      ≡ cond alone (wrappedOf (listed replies 0 12) ++ replicate 15 0)
+      (wrappedOf (listed replies 0 12) ++ wrappedOf (listed replies 12 12))
   in-place true n w v e p q =
       let z : n ≡ 0 = e in
       let y : v ≡ wrappedOf (part replies 0 12) = rw z at q in

@@ -92,7 +92,7 @@ module _ (m : Node) (flash eeprom : List ℕ) (isFull : full flash eeprom ≡ tr
       ap (λ (x : Effect). heldDone x (holding m xs) ys flash eeprom) (frame-held m xs (innerOf ys)) ∙ complete-frame xs ys
 
   -- a byte with which ys are held
-  with-byte : (xs : List ℕ) (b : ℕ) → Holdable xs → (ys : List ℕ) → heldWith xs b ≡ ys
+  pub with-byte : (xs : List ℕ) (b : ℕ) → Holdable xs → (ys : List ℕ) → heldWith xs b ≡ ys
       → uartStep (holding m xs) b flash eeprom
       ≡ cond (incomplete ys) (silent 10 (holding m ys) flash eeprom) (fifteenth ys)
   unfolding uartStep
@@ -167,7 +167,7 @@ nothing-held n e =
     ap (λ (k : ℕ). cond (mayHold (n .receiver)) (take k (n .receiver .held)) []) e ∙ cond-same (mayHold (n .receiver)) []
 
 -- a byte to a record is a byte to the tidied record, and so a frame
-byte-tidied : (n : Node) (b : ℕ) (flash eeprom : List ℕ) → uartStep n b flash eeprom ≡ uartStep (tidied n) b flash eeprom
+pub byte-tidied : (n : Node) (b : ℕ) (flash eeprom : List ℕ) → uartStep n b flash eeprom ≡ uartStep (tidied n) b flash eeprom
 unfolding uartStep
 byte-tidied n b flash eeprom = ap (λ (x : Node). received x b flash eeprom) (sym (tidy-twice n))
 

@@ -1,46 +1,41 @@
--- `memory_address::legal_flash` meets its contract: each arm knows which case of the rule's answer holds.
+-- `memory_address::legal_flash` meets its contract: each arm of the `match` knows which number the command is, and the law of that
+-- command's part of the rule is the arm's test.
 -- Assumes nothing.
+use mathlib.Core.Path.{sym}
 use borrow.Author.Needs.{needs}
+use Rattle.memory_address.proofs.Laws.{read-ruled, write-ruled, erase-ruled, read-flash, write-flash, block-flash, no-other-flash}
 use Rattle.memory_address.proofs.legal_flash.Statement.{statement}
 use Rattle.memory_address.proofs.legal_flash.Tie as tie
 
-rule-requires : tie.Need-rule-requires
-rule-requires c κs = search needs
+multiple-in-requires : tie.Need-multiple-in-requires
+multiple-in-requires c κs = search needs
 
-enum-known-a : tie.Need-enum-known-a
-enum-known-a c = search needs
+multiple-in-requires-2 : tie.Need-multiple-in-requires-2
+multiple-in-requires-2 c κs = search needs
 
-enum-told : tie.Need-enum-told
-enum-told c = search needs
-
-enum-told-2 : tie.Need-enum-told-2
-enum-told-2 c = search needs
-
-enum-told-3 : tie.Need-enum-told-3
-enum-told-3 c = search needs
+multiple-in-requires-3 : tie.Need-multiple-in-requires-3
+multiple-in-requires-3 c κs = search needs
 
 returns : tie.Need-returns
-returns c =
-    let k = c .before .before .before in
-    simp (← k .before .before .rule .ensures, k .a .given .1, c .enum-told .given .1)
+returns c = simp (c .before .match .keys1, read-ruled, read-flash) (c .multiple-in .ensures)
 
 returns-2 : tie.Need-returns-2
-returns-2 c =
-    let k = c .before .before .before in
-    simp (← k .before .before .rule .ensures, k .a .given .1, c .enum-told2 .given .1)
+returns-2 c = simp (c .before .match .keys2, write-ruled, write-flash) (c .multiple-in2 .ensures)
 
 returns-3 : tie.Need-returns-3
-returns-3 c = simp (← c .before .before .rule .ensures, c .enum-told3 .given .1)
+returns-3 c = simp (c .before .match .keys3, erase-ruled, block-flash) (c .multiple-in3 .ensures)
+
+returns-4 : tie.Need-returns-4
+returns-4 c = sym (no-other-flash _ _ (c .match .rest .0 .0 .1) (c .match .rest .0 .1) (c .match .rest .1))
 
 pub legal-flash-spec : {M : Type 1} → statement M
 legal-flash-spec =
     tie.close
     (tie.spec
-    rule-requires
-    enum-known-a
-    enum-told
-    enum-told-2
-    enum-told-3
+    multiple-in-requires
+    multiple-in-requires-2
+    multiple-in-requires-3
     returns
     returns-2
-    returns-3)
+    returns-3
+    returns-4)

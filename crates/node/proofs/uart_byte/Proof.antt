@@ -1,196 +1,176 @@
+-- `node::uart_byte` meets its contract: the record is tidied where it lies, and each return is one law of Listening.antt.
+-- Assumes nothing.
+use mathlib.Core.Path.{_≡_, _∙_, sym}
+use mathlib.Core.Bool.{true, false}
+use mathlib.Core.Logic.{_⊎_, ⊎-elim, inl, inr}
+use lib.ListN.{length-set}
+use borrow.Author.Tests.{not-true, not-false}
+use Rattle.memory_address.specs.Places.{full}
+use Rattle.node_rules.specs.Record.{tidied}
+use Rattle.node_rules.specs.Outcomes.{isDeaf}
+use Rattle.node_rules.specs.Uart.{isClosed}
+use Rattle.node_record.proofs.Tidied.{kept-tidied, lost-tidied}
+use Rattle.node.proofs.Listening.{room-of, not-full, closed, deaf, skipped, held, bad, whole}
 use borrow.Author.Needs.{needs}
 use Rattle.node.proofs.uart_byte.Statement.{statement}
 use Rattle.node.proofs.uart_byte.Tie as tie
-use Rattle.node.proofs.uart_byte.Reads as reads
-use Rattle.node.proofs.uart_byte.Lts as lts
-use Rattle.frame_uart.proofs.unwrap.Reads as unwrap-reads
-use Rattle.node.proofs.can_frame.Reads as can-frame-reads
-use Rattle.node.proofs.full.Reads as full-reads
-use Rattle.node.proofs.port.held_after_bad.Reads as held-after-bad-reads
-use Rattle.node.proofs.port.is_closed.Reads as is-closed-reads
-use Rattle.node.proofs.port.silent.Reads as silent-reads
-use Rattle.node_frame.proofs.is_deaf.Reads as is-deaf-reads
-use Rattle.node_record.proofs.is_tidy.Reads as is-tidy-reads
-use Rattle.node_record.proofs.none_held.Reads as none-held-reads
-use Rattle.node_record.proofs.tidy_receiver.Reads as tidy-receiver-reads
-use Rattle.node_record.proofs.with_mode.Reads as with-mode-reads
-use Rattle.node_reply_uart.proofs.on_uart.Reads as on-uart-reads
 
--- src/lib.rt:127:9
+-- the record that goes on is the tidied one
+tidied-here : (c : tie.Joined1) → c .if1 .n ≡ tidied (c .before .before .before .before .before .args .node)
+tidied-here c =
+    let n = c .before .before .before .before .before .args .node in
+    let r = c .before .before .tidy-receiver .result in
+    let e = c .before .before .tidy-receiver .ensures in
+    ⊎-elim
+    (λ x. x .2 ∙ x .1 .ensures ∙ lost-tidied n r e (sym (c .before .is-tidy .ensures) ∙ not-true (c .before .is-tidy .result) (x .0 .taken)))
+    (λ x. x .1 ∙ kept-tidied n r e (sym (c .before .is-tidy .ensures) ∙ not-false (c .before .is-tidy .result) (x .0 .left)))
+    (c .if1 .came)
+
+-- what is known behind 1, behind 2 and behind 3
+full-here : (c : tie.Else2) → full (c .before .before .before .before .before .before .before .before .before .args .flash .now) (c .before .before .before .before .before .before .before .before .before .args .eeprom .now) ≡ true
+full-here c = sym (c .before .full .ensures) ∙ not-false (c .before .full .result) (c .if2 .left)
+
+open-here : (c : tie.Else3) → isClosed (c .before .before .before .before .before .before .before .if1 .n .choices .pin) ≡ false
+open-here c = sym (c .before .is-closed .ensures) ∙ c .if3 .left
+
+hears-here : (c : tie.Else4) → isDeaf (c .before .before .before .before .before .before .before .before .before .if1 .n .mode) ≡ false
+hears-here c = sym (c .before .is-deaf .ensures) ∙ c .if4 .left
+
+-- a frame is begun, or begins
+begun : (c : tie.Joined5) → (c .before .before .before .before .before .before .before .before .before .before .if1 .n .receiver .count ≡ 0 → ⊥) ⊎ (c .before .before .before .before .before .before .before .before .before .before .before .before .before .before .before .args .byte ≡ 0xAA)
+begun c = ⊎-elim (λ x. inr (x .1 .left)) (λ x. inl (x .left)) (c .if5 .came)
+
 tidy-receiver-requires : tie.Need-tidy-receiver-requires
 tidy-receiver-requires c κs = search needs
 
--- src/lib.rt:130:9
 is-tidy-requires : tie.Need-is-tidy-requires
 is-tidy-requires c κs = search needs
 
--- src/lib.rt:131:9
 with-mode-requires : tie.Need-with-mode-requires
 with-mode-requires c κs = search needs
 
--- src/lib.rt:133:9
 full-requires : tie.Need-full-requires
 full-requires c κs = search needs
 
--- src/lib.rt:134:9
 silent-requires : tie.Need-silent-requires
 silent-requires c κs = search needs
 
--- src/lib.rt:134:9
 same-length : tie.Need-same-length
 same-length c = search needs
 
--- src/lib.rt:134:9
 same-length-2 : tie.Need-same-length-2
 same-length-2 c = search needs
 
--- src/lib.rt:134:9
 returns : tie.Need-returns
-returns c = ?
+returns c = rw (c .silent .ensures) (not-full (c .before .before .before .before .before .before .before .before .before .before .args .node) (c .before .before .before .before .before .if1 .n) (c .before .before .before .before .before .before .before .before .before .before .args .byte) (c .before .before .before .before .before .before .before .before .before .before .args .flash .now) (c .before .before .before .before .before .before .before .before .before .before .args .eeprom .now) (tidied-here (c .before .before .before .before .before)) (sym (c .before .before .full .ensures) ∙ not-true (c .before .before .full .result) (c .before .if2 .taken)))
 
--- src/lib.rt:138:8
 is-closed-requires : tie.Need-is-closed-requires
 is-closed-requires c κs = search needs
 
--- src/lib.rt:139:9
 silent-requires-2 : tie.Need-silent-requires-2
 silent-requires-2 c κs = search needs
 
--- src/lib.rt:139:9
 same-length-3 : tie.Need-same-length-3
 same-length-3 c = search needs
 
--- src/lib.rt:139:9
 same-length-4 : tie.Need-same-length-4
 same-length-4 c = search needs
 
--- src/lib.rt:139:9
 returns-2 : tie.Need-returns-2
-returns-2 c = ?
+returns-2 c = rw (c .silent2 .ensures) (closed (c .before .before .before .before .before .before .before .before .before .before .before .before .before .args .node) (c .before .before .before .before .before .before .before .before .if1 .n) (c .before .before .before .before .before .before .before .before .before .before .before .before .before .args .byte) (c .before .before .before .before .before .before .before .before .before .before .before .before .before .args .flash .now) (c .before .before .before .before .before .before .before .before .before .before .before .before .before .args .eeprom .now) (tidied-here (c .before .before .before .before .before .before .before .before)) (full-here (c .before .before .before .before)) (sym (c .before .before .is-closed .ensures) ∙ c .before .if3 .taken))
 
--- src/lib.rt:142:8
 is-deaf-requires : tie.Need-is-deaf-requires
 is-deaf-requires c κs = search needs
 
--- src/lib.rt:143:9
 silent-requires-3 : tie.Need-silent-requires-3
 silent-requires-3 c κs = search needs
 
--- src/lib.rt:143:9
 same-length-5 : tie.Need-same-length-5
 same-length-5 c = search needs
 
--- src/lib.rt:143:9
 same-length-6 : tie.Need-same-length-6
 same-length-6 c = search needs
 
--- src/lib.rt:143:9
 returns-3 : tie.Need-returns-3
-returns-3 c = ?
+returns-3 c = rw (c .silent3 .ensures) (deaf (c .before .before .before .before .before .before .before .before .before .before .before .before .before .before .before .args .node) (c .before .before .before .before .before .before .before .before .before .before .if1 .n) (c .before .before .before .before .before .before .before .before .before .before .before .before .before .before .before .args .byte) (c .before .before .before .before .before .before .before .before .before .before .before .before .before .before .before .args .flash .now) (c .before .before .before .before .before .before .before .before .before .before .before .before .before .before .before .args .eeprom .now) (tidied-here (c .before .before .before .before .before .before .before .before .before .before)) (full-here (c .before .before .before .before .before .before)) (open-here (c .before .before .before)) (sym (c .before .before .is-deaf .ensures) ∙ c .before .if4 .taken))
 
--- src/lib.rt:148:13
 silent-requires-4 : tie.Need-silent-requires-4
 silent-requires-4 c κs = search needs
 
--- src/lib.rt:148:13
 same-length-7 : tie.Need-same-length-7
 same-length-7 c = search needs
 
--- src/lib.rt:148:13
 same-length-8 : tie.Need-same-length-8
 same-length-8 c = search needs
 
--- src/lib.rt:148:13
 returns-4 : tie.Need-returns-4
-returns-4 c = ?
+returns-4 c = rw (c .silent4 .ensures) (skipped (c .before .before .before .before .before .before .before .before .before .before .before .before .before .before .before .before .before .args .node) (c .before .before .before .before .before .before .before .before .before .before .before .before .if1 .n) (c .before .before .before .before .before .before .before .before .before .before .before .before .before .before .before .before .before .args .byte) (c .before .before .before .before .before .before .before .before .before .before .before .before .before .before .before .before .before .args .flash .now) (c .before .before .before .before .before .before .before .before .before .before .before .before .before .before .before .before .before .args .eeprom .now) (tidied-here (c .before .before .before .before .before .before .before .before .before .before .before .before)) (full-here (c .before .before .before .before .before .before .before .before)) (open-here (c .before .before .before .before .before)) (hears-here (c .before .before .before)) (c .before .before .if5 .taken) (c .before .if6 .taken))
 
--- src/lib.rt:153:9
 element-write-r : tie.Need-element-write-r
 element-write-r c = search needs
 
--- src/lib.rt:154:19
 add-r : tie.Need-add-r
 add-r c = search needs
 
--- src/lib.rt:156:9
 silent-requires-5 : tie.Need-silent-requires-5
 silent-requires-5 c κs = search needs
 
--- src/lib.rt:156:9
 same-length-9 : tie.Need-same-length-9
 same-length-9 c = search needs
 
--- src/lib.rt:156:9
 same-length-10 : tie.Need-same-length-10
 same-length-10 c = search needs
 
--- src/lib.rt:156:9
 returns-5 : tie.Need-returns-5
-returns-5 c = ?
+returns-5 c = rw (c .silent5 .ensures) (held (c .before .before .before .before .before .before .before .before .before .before .before .before .before .before .before .before .before .before .args .node) (c .before .before .before .before .before .before .before .before .before .before .before .before .before .if1 .n) (c .before .before .before .before .before .before .before .before .before .before .before .before .before .before .before .before .before .before .args .byte) (c .before .before .before .before .before .before .before .before .before .before .before .before .before .before .before .before .before .before .args .flash .now) (c .before .before .before .before .before .before .before .before .before .before .before .before .before .before .before .before .before .before .args .eeprom .now) (tidied-here (c .before .before .before .before .before .before .before .before .before .before .before .before .before)) (full-here (c .before .before .before .before .before .before .before .before .before)) (open-here (c .before .before .before .before .before .before)) (hears-here (c .before .before .before .before)) (c .before .before .if7 .taken) (begun (c .before .before .before)))
 
--- src/lib.rt:159:5
 array-write-whole : tie.Need-array-write-whole
 array-write-whole c = search needs
 
--- src/lib.rt:161:37
 slice-aggregate-unwrap : tie.Need-slice-aggregate-unwrap
-slice-aggregate-unwrap c = ?
+slice-aggregate-unwrap c = simp length-set (sym (room-of (c .before .before .before .before .before .before .before .before .before .before .before .before .before .before .before .before .before .before .args .node) (c .before .before .before .before .before .before .before .before .before .before .before .before .before .if1 .n) (tidied-here (c .before .before .before .before .before .before .before .before .before .before .before .before .before))))
 
--- src/lib.rt:161:45
 slice-aggregate-unwrap-2 : tie.Need-slice-aggregate-unwrap-2
 slice-aggregate-unwrap-2 c = search needs
 
--- src/lib.rt:161:9
 unwrap-requires : tie.Need-unwrap-requires
 unwrap-requires c κs = search needs
 
--- src/lib.rt:163:13
 held-after-bad-requires : tie.Need-held-after-bad-requires
 held-after-bad-requires c κs = search needs
 
--- src/lib.rt:165:9
 silent-requires-6 : tie.Need-silent-requires-6
 silent-requires-6 c κs = search needs
 
--- src/lib.rt:165:9
 same-length-11 : tie.Need-same-length-11
 same-length-11 c = search needs
 
--- src/lib.rt:165:9
 same-length-12 : tie.Need-same-length-12
 same-length-12 c = search needs
 
--- src/lib.rt:165:9
 returns-6 : tie.Need-returns-6
-returns-6 c = ?
+returns-6 c = rw (c .silent6 .ensures) (bad (c .before .before .before .before .before .before .before .before .before .before .before .before .before .before .before .before .before .before .before .before .before .before .before .before .args .node) (c .before .before .before .before .before .before .before .before .before .before .before .before .before .before .before .before .before .before .before .if1 .n) (c .before .before .before .before .before .before .before .before .before .before .before .before .before .before .before .before .before .before .before .before .before .before .before .before .args .byte) (c .before .before .before .before .before .before .before .before .before .before .before .before .before .before .before .before .before .before .before .before .before .before .before .before .args .flash .now) (c .before .before .before .before .before .before .before .before .before .before .before .before .before .before .before .before .before .before .before .before .before .before .before .before .args .eeprom .now) (tidied-here (c .before .before .before .before .before .before .before .before .before .before .before .before .before .before .before .before .before .before .before)) (full-here (c .before .before .before .before .before .before .before .before .before .before .before .before .before .before .before)) (open-here (c .before .before .before .before .before .before .before .before .before .before .before .before)) (hears-here (c .before .before .before .before .before .before .before .before .before .before)) (c .before .before .before .before .before .before .before .before .if7 .left) (c .before .before .before .before .unwrap .result) (c .before .held-after-bad .result) (c .before .before .before .before .unwrap .ensures .0) (c .before .before .if8 .taken) (c .before .held-after-bad .ensures))
 
--- src/lib.rt:167:9
 none-held-requires : tie.Need-none-held-requires
 none-held-requires c κs = search needs
 
--- src/lib.rt:169:26
 slice-aggregate-can-frame : tie.Need-slice-aggregate-can-frame
 slice-aggregate-can-frame c = search needs
 
--- src/lib.rt:169:9
 can-frame-requires : tie.Need-can-frame-requires
 can-frame-requires c κs = search needs
 
--- src/lib.rt:170:5
 on-uart-requires : tie.Need-on-uart-requires
 on-uart-requires c κs = search needs
 
--- src/lib.rt:121:1
 same-length-13 : tie.Need-same-length-13
 same-length-13 c = search needs
 
--- src/lib.rt:121:1
 same-length-14 : tie.Need-same-length-14
 same-length-14 c = search needs
 
--- src/lib.rt:121:1
 returns-7 : tie.Need-returns-7
-returns-7 c = ?
+returns-7 c = whole (c .before .before .before .before .before .before .before .before .before .before .before .before .before .before .before .before .before .before .before .before .before .before .before .before .before .before .before .before .before .before .before .before .args .node) (c .before .before .before .before .before .before .before .before .before .before .before .before .before .before .before .before .before .before .before .before .before .before .before .before .before .before .before .if1 .n) (c .before .before .before .before .before .before .before .before .before .before .before .before .before .before .before .before .before .before .before .before .before .before .before .before .before .before .before .before .before .before .before .before .args .byte) (c .before .before .before .before .before .before .before .before .before .before .before .before .before .before .before .before .before .before .before .before .before .before .before .before .before .before .before .before .before .before .before .before .args .flash .now) (c .before .before .before .before .before .before .before .before .before .before .before .before .before .before .before .before .before .before .before .before .before .before .before .before .before .before .before .before .before .before .before .before .args .eeprom .now) (tidied-here (c .before .before .before .before .before .before .before .before .before .before .before .before .before .before .before .before .before .before .before .before .before .before .before .before .before .before .before)) (full-here (c .before .before .before .before .before .before .before .before .before .before .before .before .before .before .before .before .before .before .before .before .before .before .before)) (open-here (c .before .before .before .before .before .before .before .before .before .before .before .before .before .before .before .before .before .before .before .before)) (hears-here (c .before .before .before .before .before .before .before .before .before .before .before .before .before .before .before .before .before .before)) (c .before .before .before .before .before .before .before .before .before .before .before .before .before .before .before .before .if7 .left) (c .before .before .before .before .before .before .before .before .before .before .before .before .unwrap .result) _ _ _ (c .before .before .before .before .before .can-frame .result) (c .before .before .before .before .before .before .before .before .before .none-held .result) (c .on-uart .result) (c .before .before .before .before .before .before .before .before .before .before .before .before .unwrap .ensures .0) (c .before .before .before .before .before .before .before .before .before .before .if8 .left) (c .before .before .before .before .before .before .before .before .before .before .before .before .unwrap .ensures .1) (c .before .before .before .before .before .before .before .before .before .none-held .ensures) (c .before .before .before .before .before .can-frame .ensures) (c .on-uart .ensures)
 
 pub uart-byte-spec : {M : Type 1} → statement M
 uart-byte-spec =

@@ -17,7 +17,7 @@ one-requires c κs = search needs
 returns : tie.Need-returns
 returns c =
     simp (
-      eq-eqb _ 0x106 (c .before .before .before .before .if1 .taken),
+      eq-eqb _ _ (c .before .before .before .before .if1 .taken),
       ← c .before .before .before .has-started .ensures,
       c .before .before .if2 .taken,
     ) (rw (c .before .firmware-type .ensures) at (c .one .ensures))
@@ -31,7 +31,7 @@ one-requires-2 c κs = search needs
 returns-2 : tie.Need-returns-2
 returns-2 c =
     simp (
-      eq-eqb _ 0x106 (c .before .before .before .before .if1 .taken),
+      eq-eqb _ _ (c .before .before .before .before .if1 .taken),
       ← c .before .before .before .has-started .ensures,
       c .before .before .if2 .left,
     ) (rw (c .before .firmware-error .ensures) at (c .one2 .ensures))

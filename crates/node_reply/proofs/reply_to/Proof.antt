@@ -11,7 +11,7 @@ one-requires : tie.Need-one-requires
 one-requires c κs = search needs
 
 returns : tie.Need-returns
-returns c = rw (c .before .type-of .ensures .0) at (c .one .ensures)
+returns c = simp (← c .before .type-of .ensures .0) (c .one .ensures)
 
 pub reply-to-spec : {M : Type 1} → statement M
 reply-to-spec = tie.close (tie.spec type-of-requires one-requires returns)

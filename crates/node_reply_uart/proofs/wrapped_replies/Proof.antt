@@ -1,5 +1,5 @@
--- `node_reply_uart::wrapped_replies` meets its contract: each reply lies within the 24 bytes and each room within the 30, since the last place is 0 or
--- 1. What the second wrapping leaves is the law of InPlace.antt.
+-- `node_reply_uart::wrapped_replies` meets its contract: each reply lies within the 24 bytes and each room within the 30, since the last
+-- place is 0 or 1. What the second wrapping leaves is the law of InPlace.antt.
 -- Assumes nothing.
 use mathlib.Core.Path.{_≡_, refl, _∙_}
 use Prim.Native.Nat.{_≤_}
@@ -25,7 +25,8 @@ first-filled : (c : tie.After-wrap) → c .wrap .last .1 .0 ≡ wrappedOf (part 
 first-filled c =
     let replies = c .before .before .before .before .before .args .t2 in
     let l : length replies ≡ 24 = search needs in
-    filled (part replies 0 12) (replicate 15 0) _ _ (c .wrap .ensures .0) (c .wrap .ensures .1) refl (part-length replies 0 12 (omega arith))
+    let m : length (part replies 0 12) ≡ 12 = part-length replies 0 12 (omega arith) in
+    filled (part replies 0 12) (replicate 15 0) _ _ (c .wrap .ensures .0) (c .wrap .ensures .1) refl m
 
 returns : tie.Need-returns
 returns c = simp (eq-eqb _ 0 (c .if1 .taken))

@@ -5,10 +5,10 @@ use Rattle.node_decide.proofs.asking.refuse.Statement.{statement}
 use Rattle.node_decide.proofs.asking.refuse.Tie as tie
 
 returns : tie.Need-returns
-returns c = simp (eq-eqb _ 8 (c .if1 .taken))
+returns c = simp (eq-eqb _ _ (c .if1 .taken))
 
 returns-2 : tie.Need-returns-2
-returns-2 c = simp (ne-eqb _ 8 (c .if1 .left))
+returns-2 c = simp (ne-eqb _ _ (c .if1 .left))
 
 pub refuse-spec : {M : Type 1} → statement M
 refuse-spec = tie.close (tie.spec returns returns-2)
