@@ -1,3 +1,4 @@
 pub mod Turns
 pub mod Outcome
+pub mod Calls
 pub mod Tight
