@@ -21,7 +21,7 @@ use Rattle.recipe.specs.Faults.{kindOf, known, addressOf, outOfPlace, fa
 use Rattle.recipe.specs.Reading.{Reading, Stop, atEnd, fault, sizeOf, itemsAt, behind, readFrom, reading, recipeOf}
 use Rattle.recipe.specs.declared.Translated.the-variants.{Frames, Refused}
 use Rattle.recipe.specs.Frames.{frameCount}
-use Rattle.recipe.specs.Translation.{answerAt, lastly, checked, translated}
+use Rattle.recipe.specs.Translation.{answerAt, unlessShort, checked, translated}
 use Rattle.recipe.proofs.Order.{Faultless, faultless}
 use Rattle.recipe.proofs.Steps.{read-end, read-fault, read-on}
 
@@ -227,7 +227,7 @@ pub accepts-only : (input : List ℕ) (room count : ℕ) → Bytes input → tra
 unfolding translated checked
 accepts-only input room count b e = go (reading input .stop) refl e
   where
-    go : (s : Stop) → reading input .stop ≡ s → lastly (answerAt s (length input) (frameCount (recipeOf input))) room ≡ Frames count
+    go : (s : Stop) → reading input .stop ≡ s → unlessShort (answerAt s (length input) (frameCount (recipeOf input))) room ≡ Frames count
         → Legal (recipeOf input) × (input ≡ printed (recipeOf input)) × (count ≡ frameCount (recipeOf input)) × (12 * count ≤ room)
     go (fault n p) q e = absurd (let z : _≡_ {A = ℕ} 0 1 = cc in omega arith)
     go (atEnd false) q e = absurd (let z : _≡_ {A = ℕ} 0 1 = cc in omega arith)
