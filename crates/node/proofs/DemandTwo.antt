@@ -114,4 +114,5 @@ pub ports-agree : {n : Node} {f flash eeprom flash′ eeprom′ : List ℕ} {r :
 ports-agree {n} {f} {flash} {eeprom} c bytes fl el pin hears empty l =
     bytes-follow bytes
     ∙ agreement n flash eeprom fl el pin hears empty f l
-    ∙ ap (λ (x : Step). collected (tidied n) [] (0xAA ∷ f ++ (sumOf f % 256 ∷ [])) flash eeprom ++ (viaUart x ∷ [])) (sym (can-frame-said c))
+    ∙ ap (λ (x : Step). collected (tidied n) [] (0xAA ∷ f ++ (sumOf f % 256 ∷ [])) flash eeprom ++ (viaUart x ∷ [])) (sym
+    (can-frame-said c))
