@@ -41,7 +41,7 @@ use Rattle.recipe.specs.Frames.{itemsFrames, framesOf, joined}
 use Rattle.recipe.specs.Plain.{Memories}
 use Rattle.recipe.proofs.Framing.{Twelve, frames-twelve}
 use Rattle.update_rules.specs.Delivery.{Delivery, told, behind, delivered}
-use Rattle.update_rules.specs.Serial.{toldOnUart, deliveryOnUart, fed, wrappedAll, incompleteTold, wrappedTold, onSerial, OpenPort, AllZero}
+use Rattle.update_rules.specs.Serial.{toldOnUart, deliveryOnUart, fed, wrappedAll, incompleteTold, wrappedTold, onSerial, OpenPort, AllDone}
 use Rattle.update_rules.specs.Mirror.{mirrored, silent as nothingTold, answersOf}
 use Rattle.update_rules.specs.Updated.{Ready, over, updated}
 use Rattle.update_rules.proofs.Deliveries.{stepAt, frame-keeps}
@@ -132,7 +132,7 @@ collected-told n xs (b ∷ bs) flash eeprom rest before =
 
 -- whatever is delivered on CAN with number 0 each is delivered on UART to the same end
 pub serial : (frames : List (List ℕ)) → Twelve frames → (n : Node) (flash eeprom : List ℕ) → OpenPort n flash eeprom
-    → AllZero (delivered frames n flash eeprom .answers)
+    → AllDone (delivered frames n flash eeprom .answers)
     → fed (wrappedAll frames) n flash eeprom ≡ onSerial (delivered frames n flash eeprom)
 unfolding delivered fed joined
 serial [] h n flash eeprom o zero = refl
@@ -155,11 +155,11 @@ serial (f ∷ fs) h n flash eeprom o zero =
 
 -- ---- demand 3 on UART
 
-mirrors-zero : (fs : List (List ℕ)) → AllZero (map mirrored fs ++ (nothingTold ∷ []))
+mirrors-zero : (fs : List (List ℕ)) → AllDone (map mirrored fs ++ (nothingTold ∷ []))
 mirrors-zero [] = (refl, tt)
 mirrors-zero (f ∷ fs) = (refl, mirrors-zero fs)
 
-answers-zero : (r : Recipe) → AllZero (answersOf r)
+answers-zero : (r : Recipe) → AllDone (answersOf r)
 unfolding answersOf
 answers-zero r = mirrors-zero (itemsFrames (r .moduleNumber) (r .groupNumber) (r .items))
 
@@ -169,5 +169,5 @@ pub demand-three-serial : (r : Recipe) (n : Node) (m : Memories) → Legal r →
 demand-three-serial r n m legal ready o =
     let e = demand-three r n m legal ready (o .flashFull) (o .eepromFull) in
     serial (framesOf r) (frames-twelve r legal) n (m .flash) (m .eeprom) o
-    (subst AllZero (sym (ap (λ (d : Delivery). d .answers) e)) (answers-zero r))
+    (subst AllDone (sym (ap (λ (d : Delivery). d .answers) e)) (answers-zero r))
     ∙ ap onSerial e

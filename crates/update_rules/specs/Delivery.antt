@@ -46,7 +46,7 @@ pub record Parted (first others : List (List ℕ)) (before : State) (answers : L
   pub then : Delivers others between (drop (length first) answers) after
 
 -- what no delivery changes: the plate with the own numbers and the fixed bytes, what was chosen, and the memories' lengths
-pub record SameNode (before after : State) : Type 0 where
+pub record Lasting (before after : State) : Type 0 where
   pub samePlate : after .node .plate ≡ before .node .plate
   pub sameChoices : after .node .choices ≡ before .node .choices
   pub flashLength : length (after .flash) ≡ length (before .flash)
