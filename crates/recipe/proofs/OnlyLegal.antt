@@ -115,15 +115,25 @@ module _ (looks : ℕ)
   on-block : Claim 0x02
   on-block b f =
       in-front (block (addressOf (0x02 ∷ xs)) (part (0x02 ∷ xs) 4 64)) (0x02 ∷ xs) (drop 68 (0x02 ∷ xs)) number _
-      (start 64 (0x02 ∷ xs) (b, bytes) (f .whole))
-      (not-false _ (f .address), part-length (0x02 ∷ xs) 4 64 (f .whole), bytes-take 64 (drop 4 (0x02 ∷ xs)) (bytes-drop 4 (0x02 ∷ xs) (b, bytes)))
+      (start 64 (0x02 ∷ xs) (b, bytes) (f .whole)) (
+        not-false _ (f .address),
+        part-length (0x02 ∷ xs) 4 64 (f .whole),
+        bytes-take 64 (drop 4 (0x02 ∷ xs)) (bytes-drop 4 (0x02 ∷ xs)
+            (b, bytes)),
+      )
       (ih (drop 68 (0x02 ∷ xs)) (place + 68) (number + 1) (bytes-drop 68 (0x02 ∷ xs) (b, bytes)) (omega arith) (omega (arith, fewer f)))
 
   on-row : Claim 0x03
   on-row b f =
       in-front (row (addressOf (0x03 ∷ xs)) (part (0x03 ∷ xs) 4 8)) (0x03 ∷ xs) (drop 12 (0x03 ∷ xs)) number _
-      (start 8 (0x03 ∷ xs) (b, bytes) (f .whole))
-      (not-false _ (f .address), part-length (0x03 ∷ xs) 4 8 (f .whole), bytes-take 8 (drop 4 (0x03 ∷ xs)) (bytes-drop 4 (0x03 ∷ xs) (b, bytes)))
+      (start 8 (0x03 ∷ xs) (b, bytes) (f .whole)) (
+        not-false _ (f .address),
+        part-length (0x03 ∷ xs) 4 8 (f .whole),
+        bytes-take 8 (drop 4 (0x03 ∷ xs)) (bytes-drop 4 (0x03 ∷ xs) (
+          b,
+          bytes,
+        )),
+      )
       (ih (drop 12 (0x03 ∷ xs)) (place + 12) (number + 1) (bytes-drop 12 (0x03 ∷ xs) (b, bytes)) (omega arith) (omega (arith, fewer f)))
 
   on-leave : Claim 0x0F
@@ -157,7 +167,8 @@ only (suc looks) (k ∷ xs) place number bytes more few = go (only looks) (fault
         subst (Printed (k ∷ xs) number) (sym (read-on looks (k ∷ xs) place number false (omega arith) e))
         (on-kind looks ih xs place number (bytes .1) more few k (bytes .0) (faultless (k ∷ xs) number false e))
     go ih (suc n) e = λ s.
-        absurd (no-end (sym (ap (λ (r : Reading). r .stop) (read-fault looks (k ∷ xs) place number false (omega arith) (λ z. omega arith))) ∙ s))
+        absurd (no-end (sym (ap (λ (r : Reading). r .stop) (read-fault looks (k ∷ xs) place number false (omega arith)
+        (λ z. omega arith))) ∙ s))
 
 -- ---- the whole
 

@@ -1,5 +1,5 @@
--- Demand 3 on UART over the real contract: calls of `node::uart_byte`, one a byte, whatever outcome its contract allows. The contract of each
--- is one step of feeding the bytes.
+-- Demand 3 on UART over the real contract: calls of `node::uart_byte`, one a byte, whatever outcome its contract allows. The contract of
+-- each is one step of feeding the bytes.
 -- Assumes nothing.
 use mathlib.Core.Path.{_≡_, _∙_, refl, sym, ap}
 use mathlib.Core.List.{List, [], _∷_}

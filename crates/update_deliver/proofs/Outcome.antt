@@ -52,7 +52,8 @@ module _ (input : List ℕ) (n : Node) (flash eeprom frames answers : List ℕ) 
       ∙ ap (λ (x : Translated). outputAfter x input (take room frames) ++ drop room frames) e
       ∙ go t e
     where
-      go : (x : Translated) → translated input room ≡ x → outputAfter x input (take room frames) ++ drop room frames ≡ outputAfter x input frames
+      go : (x : Translated) → translated input room ≡ x → outputAfter x input
+          (take room frames) ++ drop room frames ≡ outputAfter x input frames
       go (Refused number place) q = take-append-drop room frames
       go (Frames count) q =
           let written = joined (framesOf (recipeOf input)) in

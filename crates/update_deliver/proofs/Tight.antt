@@ -1,5 +1,5 @@
--- Any two outcomes that the contract of `deliver` allows for one input are equal: the whole result, and all that is lent to be changed. Both
--- are the definition's step.
+-- Any two outcomes that the contract of `deliver` allows for one input are equal: the whole result, and all that is lent to be changed.
+-- Both are the definition's step.
 -- Assumes nothing.
 use mathlib.Core.Path.{_≡_, _∙_, sym}
 use mathlib.Core.List.{List}

@@ -33,7 +33,8 @@ enum-known-translated-2 c = search needs
 
 hand-over-requires : tie.Need-hand-over-requires
 hand-over-requires c κs =
-    let a = c .before .before .before .before .before .before .before .before .before .before .before .before .before .before .before .before .before .args in
+    let a = c .before .before .before .before .before .before .before .before .before .before .before .before .before .before .before
+    .before .before .args in
     let room = c .before .before .before .before .before .before .before .before .before .before .before .room in
     let f = c .before .before .before .before .before .before .before .before .before .translate in
     let t = c .before .before .before .before .before .translated2 in
@@ -65,9 +66,12 @@ same-length-5 c = search needs
 
 returns-2 : tie.Need-returns-2
 returns-2 c =
-    let a = c .before .before .before .before .before .before .before .before .before .before .before .before .before .before .before .before .before .before .before .before .before .before .before .before .args in
-    let room = c .before .before .before .before .before .before .before .before .before .before .before .before .before .before .before .before .before .before .room in
-    let f = c .before .before .before .before .before .before .before .before .before .before .before .before .before .before .before .before .translate in
+    let a = c .before .before .before .before .before .before .before .before .before .before .before .before .before .before .before
+    .before .before .before .before .before .before .before .before .before .args in
+    let room = c .before .before .before .before .before .before .before .before .before .before .before .before .before .before .before
+    .before .before .before .room in
+    let f = c .before .before .before .before .before .before .before .before .before .before .before .before .before .before .before
+    .before .translate in
     let t = c .before .before .before .before .before .before .before .before .before .before .before .before .translated2 in
     let h = c .before .before .before .before .before .before .hand-over in
     step-done (a .recipe .now) (a .node) (a .flash .now) (a .eeprom .now) (a .frames .now) (a .answers .now) (room .result) (f .result)

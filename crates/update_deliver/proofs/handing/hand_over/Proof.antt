@@ -45,12 +45,14 @@ telling-requires c κs = search needs
 
 put-requires : tie.Need-put-requires Inv-loop μ-loop
 put-requires c κs =
-    let start = c .before .before .before .before .before .before .before .before .before .before .before .before .before .before .before .before in
+    let start = c .before .before .before .before .before .before .before .before .before .before .before .before .before .before .before
+    .before in
     let a = start .args in
     let l = c .before .before .before .before .before .before .before .before .before .before .before .loop in
     let some = c .before .before .before .before .before .before .before .before .before .before .loop-test .taken in
     let long : length (l .answers) ≡ length (a .answers .now) =
-    handing-long (a .frames .now) (a .count) (a .flash .now) (a .eeprom .now) (a .answers .now) (a .node) (l .flash) (l .eeprom) (l .answers)
+    handing-long (a .frames .now) (a .count) (a .flash .now) (a .eeprom .now) (a .answers .now) (a .node) (l .flash) (l .eeprom)
+    (l .answers)
     (l .n) (l .at) (l .to) (l .left) (l .inv) (start .pre .1) in
     let fits : l .to + 14 ≤ length (l .answers) = omega (arith, l .inv .there, some, start .pre .1, long) in
     fits
@@ -58,15 +60,19 @@ put-requires c κs =
 -- the byte of the next frame, and of the next answer, are numbers of 64 bits: they lie within what is lent
 add-at : tie.Need-add-at Inv-loop μ-loop
 add-at c =
-    let start = c .before .before .before .before .before .before .before .before .before .before .before .before .before .before .before .before .before .before .before .before in
-    let l = c .before .before .before .before .before .before .before .before .before .before .before .before .before .before .before .loop in
+    let start = c .before .before .before .before .before .before .before .before .before .before .before .before .before .before .before
+    .before .before .before .before .before in
+    let l = c .before .before .before .before .before .before .before .before .before .before .before .before .before .before .before
+    .loop in
     let fits : Fits w64 (l .at + 12) = omega (arith, l .inv .here, start .pre .0, start .good .1 .0) in
     fits
 
 add-to : tie.Need-add-to Inv-loop μ-loop
 add-to c =
-    let start = c .before .before .before .before .before .before .before .before .before .before .before .before .before .before .before .before .before .before .before .before in
-    let l = c .before .before .before .before .before .before .before .before .before .before .before .before .before .before .before .loop in
+    let start = c .before .before .before .before .before .before .before .before .before .before .before .before .before .before .before
+    .before .before .before .before .before in
+    let l = c .before .before .before .before .before .before .before .before .before .before .before .before .before .before .before
+    .loop in
     let fits : Fits w64 (l .to + 14) = omega (arith, l .inv .there, start .pre .1, start .good .1 .1 .1 .1 .1 .0) in
     fits
 
@@ -78,12 +84,16 @@ loop-less c = search needs
 
 loop-again : tie.Need-loop-again Inv-loop μ-loop
 loop-again c =
-    let a = c .before .before .before .before .before .before .before .before .before .before .before .before .before .before .before .before .before .before .before .before .args in
-    let l = c .before .before .before .before .before .before .before .before .before .before .before .before .before .before .before .loop in
-    let some = c .before .before .before .before .before .before .before .before .before .before .before .before .before .before .loop-test .taken in
+    let a = c .before .before .before .before .before .before .before .before .before .before .before .before .before .before .before
+    .before .before .before .before .before .args in
+    let l = c .before .before .before .before .before .before .before .before .before .before .before .before .before .before .before
+    .loop in
+    let some = c .before .before .before .before .before .before .before .before .before .before .before .before .before .before
+    .loop-test .taken in
     let f = c .before .before .before .before .before .before .before .before .before .before .can-frame in
     let t = c .before .before .before .before .telling in
-    handing-next (a .frames .now) (a .count) (a .flash .now) (a .eeprom .now) (a .answers .now) (a .node) (l .flash) (l .eeprom) (l .answers)
+    handing-next (a .frames .now) (a .count) (a .flash .now) (a .eeprom .now) (a .answers .now) (a .node) (l .flash) (l .eeprom)
+    (l .answers)
     (l .n) (l .at) (l .to) (l .left) (l .inv) (omega (arith, some)) (f .result) (f .last .1 .1 .0) (f .last .1 .1 .1 .0) _ (t .result)
     (simp add-sub-cancel-left at (f .ensures)) (f .kept .1 .1 .0) (f .kept .1 .1 .1 .0) (t .ensures) (search needs)
     (c .before .before .before .put .ensures)
@@ -99,7 +109,8 @@ same-length-3 c =
     let start = c .before .before .before .before .before .before in
     let a = start .args in
     let l = c .before .loop in
-    handing-long (a .frames .now) (a .count) (a .flash .now) (a .eeprom .now) (a .answers .now) (a .node) (l .flash) (l .eeprom) (l .answers)
+    handing-long (a .frames .now) (a .count) (a .flash .now) (a .eeprom .now) (a .answers .now) (a .node) (l .flash) (l .eeprom)
+    (l .answers)
     (l .n) (l .at) (l .to) (l .left) (l .inv) (start .pre .1)
 
 returns : tie.Need-returns Inv-loop μ-loop
