@@ -6,7 +6,7 @@ use mathlib.Core.List.{List, [], _∷_}
 use Prim.Native.Nat.{ℕ}
 use Rattle.node_rules.specs.declared.Node.{Node}
 use Rattle.node_rules.specs.Uart.{UartStep}
-use Rattle.node_rules.specs.Runs.{State, state, behindByte}
+use Rattle.node_rules.specs.Runs.{State, behindByte}
 use Rattle.node.proofs.Calls.{uart-byte-said}
 use Rattle.recipe.specs.Items.{Recipe, Legal}
 use Rattle.recipe.specs.Frames.{framesOf}

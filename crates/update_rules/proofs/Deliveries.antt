@@ -15,7 +15,7 @@ use Rattle.node_rules.specs.Step.{Step, nodeAfter, done, canStep}
 use Rattle.node_rules.specs.Runs.{State, state, behindFrame}
 use Rattle.node_rules.proofs.Spoiling.{can-lengths}
 use Rattle.memory_address.specs.Places.{full}
-use Rattle.update_rules.specs.Delivery.{told, Delivery, delivery, behindFrames, delivered, Delivers, behind, Parted, SameNode}
+use Rattle.update_rules.specs.Delivery.{told, Delivery, delivery, behindFrames, delivered, Delivers, behind, Parted, Lasting}
 
 -- a frame handed to what stands
 abbrev pub stepAt : State → List ℕ → Step
@@ -101,7 +101,7 @@ choices-after Stays n = refl
 choices-after (Programs s) n = refl
 choices-after Waits n = refl
 
-pub frame-keeps : (s : State) (f : List ℕ) → SameNode s (behindFrame (stepAt s f))
+pub frame-keeps : (s : State) (f : List ℕ) → Lasting s (behindFrame (stepAt s f))
 unfolding canStep done tidied
 frame-keeps s f =
     let next = decided (tidied (s .node)) (full (s .flash) (s .eeprom)) f .next in
@@ -113,7 +113,7 @@ frame-keeps s f =
       eepromLength = lengths .1;
     }
 
-kept-by : (fs : List (List ℕ)) (s : State) → SameNode s (behindFrames fs s)
+kept-by : (fs : List (List ℕ)) (s : State) → Lasting s (behindFrames fs s)
 kept-by [] s = record { samePlate = refl; sameChoices = refl; flashLength = refl; eepromLength = refl }
 kept-by (f ∷ fs) s =
     let one = frame-keeps s f in
@@ -127,5 +127,5 @@ kept-by (f ∷ fs) s =
 
 -- any frames at all: the own numbers, the fixed bytes, what was chosen and the lengths stay
 pub delivery-keeps : (fs : List (List ℕ)) (before : State) (answers : List (List ℕ)) (after : State) → Delivers fs before answers after
-    → SameNode before after
+    → Lasting before after
 delivery-keeps fs before answers after p = rw (stands-after fs before answers after p) at (kept-by fs before)

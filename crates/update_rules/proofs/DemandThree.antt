@@ -7,14 +7,14 @@ use mathlib.Core.Bool.{true}
 use mathlib.Core.List.{List, [], _∷_, map}
 use Prim.Native.Nat.{ℕ, _<_}
 use native.Mathlib.Omega.{arith}
-use lib.ListN.{length, set}
-use Rattle.memory_address.specs.Places.{flashCells, eepromCells, eepromCell, bootfl}
+use lib.ListN.{length}
+use Rattle.memory_address.specs.Places.{flashCells, eepromCells}
 use Rattle.node_rules.specs.declared.Staged.{Staged}
 use Rattle.node_rules.specs.declared.Mode.the-variants.{Programming, Waiting}
 use Rattle.node_rules.specs.declared.Node.{Node}
 use Rattle.node_rules.specs.Record.{withMode, tidied, legalStaged}
 use Rattle.node_rules.specs.Step.{Step}
-use Rattle.node_rules.specs.Runs.{State, behindFrame}
+use Rattle.node_rules.specs.Runs.{behindFrame}
 use Rattle.node_rules.proofs.TidiedOnce.{programming, tidied-legal}
 use Rattle.node_rules.proofs.Pairs.{tidied-first, leaves-programming}
 use Rattle.recipe.specs.Items.{Item, Recipe, Legal, LegalItems}

@@ -4,7 +4,7 @@
 -- Assumes nothing.
 use mathlib.Core.Path.{_≡_, _∙_, refl, sym, ap, subst}
 use mathlib.Core.Bool.{true}
-use mathlib.Core.List.{List, _++_}
+use mathlib.Core.List.{List}
 use Prim.Native.Nat.{ℕ, _<_}
 use native.Mathlib.Omega.{arith}
 use lib.ListN.{length, getD, take, drop, take-append-drop}
@@ -12,10 +12,10 @@ use lib.Seq.{length-take-le}
 use Rattle.node_rules.specs.declared.Choices.{Choices}
 use Rattle.node_rules.specs.declared.Restarted.{Restarted}
 use Rattle.node_rules.specs.declared.Staged.the-variants.{Nothing}
-use Rattle.node_rules.specs.declared.Mode.the-variants.{Waiting, Programming}
+use Rattle.node_rules.specs.declared.Mode.the-variants.{Waiting}
 use Rattle.node_rules.specs.declared.Node.{Node}
 use Rattle.node_rules.specs.Record.{withMode, tidied}
-use Rattle.node_rules.specs.Restart.{restartedIn, restartStep}
+use Rattle.node_rules.specs.Restart.{restartStep}
 use Rattle.node_rules.specs.Runs.{State, state}
 use Rattle.node_rules.proofs.Restarting.{restart-programming}
 use Rattle.recipe.specs.Items.{Recipe, Legal}

@@ -19,16 +19,15 @@ use Rattle.memory_address.proofs.Laws.{flash-ruled, eeprom-ruled, flash-within,
 use Rattle.memory_cells.specs.Memory.{flashWritten, flashErased, eepromWritten}
 use Rattle.memory_cells.proofs.Laws.{written-length, written-elsewhere, erased-length, erased-elsewhere, eeprom-written-length, eeprom-written-elsewhere}
 use Rattle.node_rules.specs.declared.Staged.{Staged}
-use Rattle.node_rules.specs.declared.Mode.the-variants.{Programming}
 use Rattle.node_rules.specs.declared.Node.{Node}
 use Rattle.node_rules.specs.Record.{legalStaged, tidied}
 use Rattle.node_rules.specs.Requests.{commandAt}
-use Rattle.node_rules.specs.Step.{Step, canStep}
+use Rattle.node_rules.specs.Step.{canStep}
 use Rattle.node_rules.specs.Runs.{State, state, behindFrame}
 use Rattle.node_rules.proofs.TidiedOnce.{programming, tidied-once, tidied-legal}
 use Rattle.node_rules.proofs.Pairs.{addressTo, dataTo, echoOf, answered, tidied-first, stages, erases, writes-flash, writes-eeprom}
 use Rattle.recipe.specs.Items.{Item, block, row, Recipe, Legal, LegalItem, LegalItems}
-use Rattle.recipe.specs.Frames.{addressFrame, dataFrame, leaveFrame, writes, itemFrames, itemsFrames, framesOf, itemsCount, frameCount}
+use Rattle.recipe.specs.Frames.{addressFrame, dataFrame, leaveFrame, writes, itemFrames, itemsFrames, framesOf, frameCount}
 use Rattle.recipe.specs.Plain.{OutsideFlash, OutsideEeprom, Each}
 use Rattle.recipe.proofs.Framing.{items-count}
 use Rattle.update_rules.specs.Delivery.{behindFrames, Delivers}

@@ -24,14 +24,14 @@ use Rattle.node_rules.specs.declared.Staged.{Staged}
 use Rattle.node_rules.specs.declared.Node.{Node}
 use Rattle.node_rules.specs.Record.{legalStaged}
 use Rattle.node_rules.specs.Requests.{commandAt}
-use Rattle.node_rules.specs.Step.{Step, canStep}
+use Rattle.node_rules.specs.Step.{canStep}
 use Rattle.node_rules.proofs.TidiedOnce.{programming}
 use Rattle.node_rules.proofs.Pairs.{addressTo, dataTo, showOf, writeFlash, answered, stages, writes-flash}
 use Rattle.recipe.specs.Frames.{writes}
 use Rattle.recipe.specs.Plain.{Memories}
-use Rattle.update_rules.specs.Delivery.{Delivers, delivery}
+use Rattle.update_rules.specs.Delivery.{delivery}
 use Rattle.update_rules.specs.Mirror.{mirrored}
-use Rattle.update_rules.specs.Updated.{over, Full, Carries}
+use Rattle.update_rules.specs.Updated.{over, Carries}
 use Rattle.update_rules.proofs.Deliveries.{nothing, one, one-behind-another}
 
 -- two memories

@@ -3,11 +3,11 @@
 -- Assumes nothing.
 use mathlib.Core.Path.{_≡_, _∙_, refl, sym, ap, ap₂, subst}
 use mathlib.Core.Bool.{Bool, true, false, cond}
-use mathlib.Core.List.{List, [], _∷_, _++_, map, map-append}
-use Prim.Native.Nat.{ℕ, suc, _%_, _≤_}
+use mathlib.Core.List.{List, [], _∷_, _++_, map}
+use Prim.Native.Nat.{ℕ, _%_, _≤_}
 use native.Mathlib.Omega.{arith}
 use lib.Dec.{eqb, lit≤}
-use lib.ListN.{length, take, getD, replicate, length-append}
+use lib.ListN.{length, take, replicate, length-append}
 use lib.Seq.{take-at}
 use Rattle.base.specs.Parts.{listed, sumOf}
 use Rattle.base.proofs.Choice.{by-cond}
@@ -27,23 +27,22 @@ use Rattle.node_rules.specs.Record.{heldOf, tidied}
 use Rattle.node_rules.specs.Requests.{dataIn}
 use Rattle.node_rules.specs.Outcomes.{isDeaf, canOutcomes, firstThat, decided}
 use Rattle.node_rules.specs.Replies.{replyOf, firmwareData, firmwareErrorData, isFirmwareError, replying}
-use Rattle.node_rules.specs.Step.{Step, flashAfter, eepromAfter, nodeAfter, done, canStep}
+use Rattle.node_rules.specs.Step.{flashAfter, eepromAfter, nodeAfter, done, canStep}
 use Rattle.node_rules.specs.Uart.{UartStep, onUart, viaUart}
 use Rattle.node_rules.specs.Runs.{State, state, endOf, behindFrame, behindByte, bytesIn, collected}
 use Rattle.node_rules.proofs.Modes.{tidy-deaf}
 use Rattle.node_rules.proofs.Numbers.{can-number}
 use Rattle.node_rules.proofs.Ruling.{sizes-full}
 use Rattle.node_rules.proofs.Tidying.{tidy-held}
-use Rattle.node_rules.proofs.Running.{end-append}
 use Rattle.node_rules.proofs.Agreement.{wrapped-frame}
 use Rattle.recipe.specs.Items.{Recipe, Legal}
 use Rattle.recipe.specs.Frames.{itemsFrames, framesOf, joined}
 use Rattle.recipe.specs.Plain.{Memories}
 use Rattle.recipe.proofs.Framing.{Twelve, frames-twelve}
 use Rattle.update_rules.specs.Delivery.{Delivery, told, behind, delivered}
-use Rattle.update_rules.specs.Serial.{toldOnUart, deliveryOnUart, fed, wrappedAll, incompleteTold, wrappedTold, onSerial, OpenPort, AllZero}
+use Rattle.update_rules.specs.Serial.{toldOnUart, deliveryOnUart, fed, wrappedAll, incompleteTold, wrappedTold, onSerial, OpenPort, AllDone}
 use Rattle.update_rules.specs.Mirror.{mirrored, silent as nothingTold, answersOf}
-use Rattle.update_rules.specs.Updated.{Ready, over, updated}
+use Rattle.update_rules.specs.Updated.{Ready, updated}
 use Rattle.update_rules.proofs.Deliveries.{stepAt, frame-keeps}
 use Rattle.update_rules.proofs.DemandThree.{demand-three}
 
@@ -132,7 +131,7 @@ collected-told n xs (b ∷ bs) flash eeprom rest before =
 
 -- whatever is delivered on CAN with number 0 each is delivered on UART to the same end
 pub serial : (frames : List (List ℕ)) → Twelve frames → (n : Node) (flash eeprom : List ℕ) → OpenPort n flash eeprom
-    → AllZero (delivered frames n flash eeprom .answers)
+    → AllDone (delivered frames n flash eeprom .answers)
     → fed (wrappedAll frames) n flash eeprom ≡ onSerial (delivered frames n flash eeprom)
 unfolding delivered fed joined
 serial [] h n flash eeprom o zero = refl
@@ -155,11 +154,11 @@ serial (f ∷ fs) h n flash eeprom o zero =
 
 -- ---- demand 3 on UART
 
-mirrors-zero : (fs : List (List ℕ)) → AllZero (map mirrored fs ++ (nothingTold ∷ []))
+mirrors-zero : (fs : List (List ℕ)) → AllDone (map mirrored fs ++ (nothingTold ∷ []))
 mirrors-zero [] = (refl, tt)
 mirrors-zero (f ∷ fs) = (refl, mirrors-zero fs)
 
-answers-zero : (r : Recipe) → AllZero (answersOf r)
+answers-zero : (r : Recipe) → AllDone (answersOf r)
 unfolding answersOf
 answers-zero r = mirrors-zero (itemsFrames (r .moduleNumber) (r .groupNumber) (r .items))
 
@@ -169,5 +168,5 @@ pub demand-three-serial : (r : Recipe) (n : Node) (m : Memories) → Legal r →
 demand-three-serial r n m legal ready o =
     let e = demand-three r n m legal ready (o .flashFull) (o .eepromFull) in
     serial (framesOf r) (frames-twelve r legal) n (m .flash) (m .eeprom) o
-    (subst AllZero (sym (ap (λ (d : Delivery). d .answers) e)) (answers-zero r))
+    (subst AllDone (sym (ap (λ (d : Delivery). d .answers) e)) (answers-zero r))
     ∙ ap onSerial e

@@ -2,7 +2,7 @@
 -- blank but for the own numbers' cells. So the theorems say something of them, and here is what they say of two cells, whether the recipe
 -- comes whole or is broken off after one frame and comes again after a restart.
 -- Assumes nothing.
-use mathlib.Core.Path.{_≡_, _∙_, refl, ap}
+use mathlib.Core.Path.{_≡_, _∙_, refl}
 use mathlib.Core.Bool.{true}
 use mathlib.Core.List.{List, [], _∷_}
 use mathlib.Core.Logic.{inl}
@@ -27,7 +27,7 @@ use Rattle.update_rules.specs.Delivery.{behindFrames, delivered, Deliver
 use Rattle.update_rules.specs.Mirror.{answersOf}
 use Rattle.update_rules.specs.Updated.{Ready, over, Full}
 use Rattle.update_rules.specs.Serial.{OpenPort}
-use Rattle.update_rules.proofs.Deliveries.{deliveredAt, all-delivered}
+use Rattle.update_rules.proofs.Deliveries.{all-delivered}
 use Rattle.update_rules.proofs.Corollaries.{last-row, bootfl-ends-zero}
 use Rattle.update_rules.proofs.Interrupted.{again-after-restart}
 

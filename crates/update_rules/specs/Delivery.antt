@@ -1,7 +1,7 @@
 -- A delivery: frames handed to a node one by one, each as a CAN frame, with nothing else in between.
 use Prim.Native.Nat.{ℕ}
 use mathlib.Core.Path.{_≡_}
-use mathlib.Core.List.{List, [], _∷_, _++_, map}
+use mathlib.Core.List.{List, _∷_, _++_, map}
 use lib.ListN.{length, take, drop}
 use Rattle.node_rules.specs.declared.Node.{Node}
 use Rattle.node_rules.specs.declared.Answer.{Answer}
@@ -46,7 +46,7 @@ pub record Parted (first others : List (List ℕ)) (before : State) (answers : L
   pub then : Delivers others between (drop (length first) answers) after
 
 -- what no delivery changes: the plate with the own numbers and the fixed bytes, what was chosen, and the memories' lengths
-pub record SameNode (before after : State) : Type 0 where
+pub record Lasting (before after : State) : Type 0 where
   pub samePlate : after .node .plate ≡ before .node .plate
   pub sameChoices : after .node .choices ≡ before .node .choices
   pub flashLength : length (after .flash) ≡ length (before .flash)

@@ -55,7 +55,7 @@ pub record OpenPort (n : Node) (flash eeprom : List ℕ) : Type 0 where
   pub flashFull : length flash ≡ flashCells
   pub eepromFull : length eeprom ≡ eepromCells
 
--- each told answer has number 0
-abbrev pub AllZero : List (List ℕ) → Type 0
-AllZero [] = Unit {0}
-AllZero (t ∷ ts) = (getD t 0 0 ≡ 0) × AllZero ts
+-- each told answer has number 0: its frame was done
+abbrev pub AllDone : List (List ℕ) → Type 0
+AllDone [] = Unit {0}
+AllDone (t ∷ ts) = (getD t 0 0 ≡ 0) × AllDone ts

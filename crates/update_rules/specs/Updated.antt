@@ -13,7 +13,7 @@ use Rattle.node_rules.specs.Record.{withMode, legalStaged, tidied}
 use Rattle.node_rules.specs.Runs.{State, state}
 use Rattle.recipe.specs.Items.{Recipe}
 use Rattle.recipe.specs.Plain.{Memories, plainly, OutsideFlash, OutsideEeprom, Each}
-use Rattle.update_rules.specs.Delivery.{Delivery, Delivers, delivery}
+use Rattle.update_rules.specs.Delivery.{Delivery, Delivers}
 use Rattle.update_rules.specs.Mirror.{mirrored, answersOf}
 
 -- "a node in programming mode (tidied record) that bears the recipe's numbers, whatever is staged"
