@@ -8,10 +8,11 @@ use Rattle.memory_address.specs.Places.{full}
 use Rattle.frame_can.specs.Wrapping.{innerOf}
 use Rattle.node_rules.specs.declared.Node.{Node}
 use Rattle.node_rules.specs.declared.Effect.{Effect}
-use Rattle.node_rules.specs.Record.{holding, heldOf, tidied}
-use Rattle.node_rules.specs.Outcomes.{afterwards, firstThat, canOutcomes, askedOf, decided}
-use Rattle.node_rules.specs.Step.{after, nodeAfter, done, canStep, silentAnswer}
-use Rattle.node_rules.specs.Uart.{uartAfter, heldWith, uartOutcomes, heldAfter, heldDone, uartStep, silentOnUart}
+use Rattle.node_rules.specs.Record.{heldOf, tidied}
+use Rattle.node_rules.specs.Outcomes.{firstThat, canOutcomes, askedOf, decided}
+use Rattle.node_rules.specs.Step.{after, done, canStep, silentAnswer}
+use Rattle.node_rules.specs.Uart.{uartAfter, heldWith, uartOutcomes, heldDone, uartStep, silentOnUart}
+use Rattle.node_rules.specs.Others.{leftOnCan, leftOnUart}
 use Rattle.node_rules.proofs.Deciding.{unless-number, unless-refused, asked-of-zero}
 
 module _ (n : Node) (f flash eeprom : List ℕ) where
@@ -25,7 +26,7 @@ module _ (n : Node) (f flash eeprom : List ℕ) where
 
   pub can-refused : (firstThat (canOutcomes (tidied n) (full flash eeprom) f) ≡ 0 → ⊥)
       → canStep n f flash eeprom
-      ≡ after (silentAnswer numberOnCan (nodeAfter (afterwards numberOnCan) (tidied n))) flash eeprom
+      ≡ after (silentAnswer numberOnCan (leftOnCan numberOnCan (tidied n))) flash eeprom
   unfolding canStep done decided
   can-refused m =
       ap (λ (e : Effect). done e (tidied n) f flash eeprom)
@@ -47,9 +48,7 @@ module _ (n : Node) (b : ℕ) (flash eeprom : List ℕ) where
 
   pub uart-refused : (firstThat (uartOutcomes (tidied n) (full flash eeprom) b) ≡ 0 → ⊥)
       → uartStep n b flash eeprom
-      ≡ uartAfter
-      (silentOnUart numberOnUart (nodeAfter (afterwards numberOnUart) (holding (tidied n) (heldAfter numberOnUart (tidied n) withByte))))
-      flash eeprom
+      ≡ uartAfter (silentOnUart numberOnUart (leftOnUart numberOnUart (tidied n) b)) flash eeprom
   unfolding uartStep done
   uart-refused m =
       ap (λ (e : Effect). heldDone e (tidied n) withByte flash eeprom)

@@ -10,10 +10,18 @@ use Rattle.frame_can.specs.Frame.{typeOf, moduleOf, groupOf}
 use Rattle.node_rules.specs.declared.Addressing.the-variants.{AsGroup, AllZero}
 use Rattle.node_rules.specs.declared.Mode.the-variants.{Waiting}
 use Rattle.node_rules.specs.declared.Node.{Node}
-use Rattle.node_rules.specs.Record.{holding, withMode}
+use Rattle.node_rules.specs.Record.{holding, withMode, heldOf}
 use Rattle.node_rules.specs.Requests.{D, areOwn, aModule, aGroup, isFor, isNormal, isProgramming}
-use Rattle.node_rules.specs.Step.{Step, bootflSet}
-use Rattle.node_rules.specs.Uart.{UartStep}
+use Rattle.node_rules.specs.Outcomes.{afterwards}
+use Rattle.node_rules.specs.Step.{Step, bootflSet, nodeAfter}
+use Rattle.node_rules.specs.Uart.{UartStep, heldWith, heldAfter}
+
+-- "Afterwards", of each number but 0: the node that it leaves, from the tidied record
+abbrev pub leftOnCan : ℕ → Node → Node
+leftOnCan number n = nodeAfter (afterwards number) n
+
+abbrev pub leftOnUart : ℕ → Node → ℕ → Node
+leftOnUart number n b = nodeAfter (afterwards number) (holding n (heldAfter number n (heldWith (heldOf n) b)))
 
 -- FLASH as it was, and each cell of EEPROM but BOOTFL's
 abbrev pub ButBootfl : List ℕ → List ℕ → List ℕ → List ℕ → Type 0
@@ -50,5 +58,6 @@ abbrev pub LeftByOthersOnUart : Node → List ℕ → List ℕ → List ℕ → 
 LeftByOthersOnUart n f flash eeprom s =
     (s .flash ≡ flash)
     × ((s .eeprom ≡ eeprom) ⊎ ((s .eeprom ≡ bootflSet eeprom 0x00) × ByZero n f))
-    × ((emptied (s .answer .node) ≡ emptied n) ⊎ ((emptied (s .answer .node) ≡ emptied (withMode n Waiting)) × (ByZero n f ⊎ ByGroup 0x101 n f)))
+    × ((emptied (s .answer .node) ≡ emptied n) ⊎ ((emptied (s .answer .node) ≡ emptied (withMode n Waiting)) ×
+    (ByZero n f ⊎ ByGroup 0x101 n f)))
     × ((s .answer .count ≡ 0) ⊎ (ByGroup 0x103 n f ⊎ (ByGroup 0x105 n f ⊎ (ByGroup 0x10D n f ⊎ ByGroup 0x10F n f))))

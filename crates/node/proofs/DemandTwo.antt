@@ -1,0 +1,118 @@
+-- Demand two over the calls' real contracts (Calls.antt): what the rules say of a frame, a byte or a restart (crates/node_rules/proofs:
+-- RequestTable, ProgrammingList, PairList, Restarting, Modes, Agreement) is what the call leaves, and all of it. Each contract is one
+-- equation with the rules' step, so a law of the step is a law of the call.
+-- Assumes nothing.
+use mathlib.Core.Path.{_≡_, _∙_, refl, sym, ap}
+use mathlib.Core.Bool.{Bool, true, false}
+use mathlib.Core.List.{List, [], _∷_, _++_}
+use Prim.Native.Nat.{ℕ, _%_}
+use lib.ListN.{length}
+use Rattle.base.specs.Parts.{sumOf}
+use Rattle.frame_can.specs.Frame.{typeOf}
+use Rattle.frame_can.specs.Wrapping.{wrappedOf, innerOf}
+use Rattle.node_rules.specs.declared.Pin.the-variants.{CanAndUart}
+use Rattle.node_rules.specs.declared.Mode.the-variants.{Normal}
+use Rattle.node_rules.specs.declared.Choices.{Choices}
+use Rattle.node_rules.specs.declared.Node.{Node}
+use Rattle.node_rules.specs.declared.Answer.{Answer}
+use Rattle.node_rules.specs.declared.UartAnswer.{UartAnswer}
+use Rattle.node_rules.specs.declared.Restarted.{Restarted}
+use Rattle.node_rules.specs.Record.{heldOf, tidied}
+use Rattle.node_rules.specs.Requests.{isProgramming}
+use Rattle.node_rules.specs.Outcomes.{isDeaf}
+use Rattle.node_rules.specs.Restart.{restartStep}
+use Rattle.node_rules.specs.Step.{Step, after, canStep}
+use Rattle.node_rules.specs.Uart.{UartStep, uartAfter, heldWith, viaUart, uartStep}
+use Rattle.node_rules.specs.Runs.{state, behindByte, bytesIn, collected}
+use Rattle.node_rules.specs.Reading.{SumsAgree}
+use Rattle.node_rules.proofs.Restarting.{marked-if, marked-only-if}
+use Rattle.node_rules.proofs.Modes.{can-deaf, can-normal, can-programming, uart-deaf, uart-normal, uart-programming}
+use Rattle.node_rules.proofs.Agreement.{agreement}
+use Rattle.node.proofs.Calls.{RestartWith, CanFrame, UartByte, restart-with-said, can-frame-said, uart-byte-said}
+
+-- ---- a CAN frame
+
+module _ {n : Node} {f flash eeprom flash′ eeprom′ : List ℕ} {r : Answer} (c : CanFrame n f flash eeprom r flash′ eeprom′) where
+  -- whatever is said of the frame, with x the whole step that it writes out, the call leaves
+  pub can-frame-follows : (x : Step) → canStep n f flash eeprom ≡ x → (r ≡ x .answer) × (flash′ ≡ x .flash) × (eeprom′ ≡ x .eeprom)
+  can-frame-follows x e =
+      let q = can-frame-said c ∙ e in
+      (ap (λ (y : Step). y .answer) q, ap (λ (y : Step). y .flash) q, ap (λ (y : Step). y .eeprom) q)
+
+  -- error mode and waiting stay
+  pub can-frame-deaf : isDeaf (n .mode) ≡ true → r .node ≡ tidied n
+  can-frame-deaf d = ap (λ (y : Step). y .answer .node) (can-frame-said c) ∙ can-deaf n f flash eeprom d
+
+  -- normal afterwards: normal before, with the same mark
+  pub can-frame-normal : (b : Bool) → r .node .mode ≡ Normal b → n .mode ≡ Normal b
+  can-frame-normal b e = can-normal n f flash eeprom b (sym (ap (λ (y : Step). y .answer .node .mode) (can-frame-said c)) ∙ e)
+
+  -- programming afterwards and not before: 0x100
+  pub can-frame-programming : isProgramming (n .mode) ≡ false → isProgramming (r .node .mode) ≡ true → typeOf f ≡ 0x100
+  can-frame-programming b e =
+      can-programming n f flash eeprom b (sym (ap (λ (y : Step). isProgramming (y .answer .node .mode)) (can-frame-said c)) ∙ e)
+
+-- ---- a UART byte
+
+module _ {n : Node} {b : ℕ} {flash eeprom flash′ eeprom′ : List ℕ} {r : UartAnswer} (c : UartByte n b flash eeprom r flash′ eeprom′) where
+  pub uart-byte-follows : (x : UartStep) → uartStep n b flash eeprom ≡ x → (r ≡ x .answer) × (flash′ ≡ x .flash) × (eeprom′ ≡ x .eeprom)
+  uart-byte-follows x e =
+      let q = uart-byte-said c ∙ e in
+      (ap (λ (y : UartStep). y .answer) q, ap (λ (y : UartStep). y .flash) q, ap (λ (y : UartStep). y .eeprom) q)
+
+  pub uart-byte-deaf : isDeaf (n .mode) ≡ true → r .node ≡ tidied n
+  uart-byte-deaf d = ap (λ (y : UartStep). y .answer .node) (uart-byte-said c) ∙ uart-deaf n b flash eeprom d
+
+  pub uart-byte-normal : (m : Bool) → r .node .mode ≡ Normal m → n .mode ≡ Normal m
+  uart-byte-normal m e = uart-normal n b flash eeprom m (sym (ap (λ (y : UartStep). y .answer .node .mode) (uart-byte-said c)) ∙ e)
+
+  pub uart-byte-programming : isProgramming (n .mode) ≡ false → isProgramming (r .node .mode) ≡ true
+      → typeOf (innerOf (heldWith (heldOf (tidied n)) b)) ≡ 0x100
+  uart-byte-programming p e =
+      uart-programming n b flash eeprom p (sym (ap (λ (y : UartStep). isProgramming (y .answer .node .mode)) (uart-byte-said c)) ∙ e)
+
+-- ---- restart
+
+module _ {n : Node} {choices : Choices} {passed : Bool} {flash eeprom : List ℕ} {r : Restarted}
+    (c : RestartWith n choices passed flash eeprom r) where
+  pub restart-follows : (x : Restarted) → restartStep n choices passed flash eeprom ≡ x → r ≡ x
+  restart-follows x e = restart-with-said c ∙ e
+
+  -- firmware is marked started exactly when a restart reaches normal mode and the sums agree
+  pub restart-marks : length flash ≡ 65536 → length eeprom ≡ 1024 → (b : Bool) → r .node .mode ≡ Normal b → SumsAgree flash → b ≡ true
+  restart-marks fl el b e g =
+      marked-if n choices flash eeprom fl el passed b (sym (ap (λ (y : Restarted). y .node .mode) (restart-with-said c)) ∙ e) g
+
+  pub restart-marks-only : length flash ≡ 65536 → length eeprom ≡ 1024 → r .node .mode ≡ Normal true → SumsAgree flash
+  restart-marks-only fl el e =
+      marked-only-if n choices flash eeprom fl el passed (sym (ap (λ (y : Restarted). y .node .mode) (restart-with-said c)) ∙ e)
+
+-- ---- UART and CAN agree
+
+-- bytes one after the other, each by a call that its contract allows, to the node and the memories that the one before left: all that
+-- each leaves
+pub data BytesGiven : List ℕ → Node → List ℕ → List ℕ → List UartStep → Type 1 where
+  none : {n : Node} {flash eeprom : List ℕ} → BytesGiven [] n flash eeprom []
+  given : {n : Node} {b : ℕ} {bs flash eeprom flash′ eeprom′ : List ℕ} {r : UartAnswer} {steps : List UartStep}
+      → UartByte n b flash eeprom r flash′ eeprom′ → BytesGiven bs (r .node) flash′ eeprom′ steps
+      → BytesGiven (b ∷ bs) n flash eeprom (uartAfter r flash′ eeprom′ ∷ steps)
+
+-- such calls leave what the rules say
+pub bytes-follow : {bs : List ℕ} {n : Node} {flash eeprom : List ℕ} {steps : List UartStep} → BytesGiven bs n flash eeprom steps
+    → steps ≡ bytesIn bs (state n flash eeprom)
+bytes-follow none = refl
+bytes-follow (given {bs = bs} {flash′ = flash′} {eeprom′ = eeprom′} {r = r} c rest) =
+    ap (λ (t : List UartStep). uartAfter r flash′ eeprom′ ∷ t) (bytes-follow rest)
+    ∙ ap (λ (x : UartStep). x ∷ bytesIn bs (behindByte x)) (uart-byte-said c)
+
+-- the wrapped frame byte by byte: fourteen times 10 with no reply and memories untouched (collected-ten), and then what the same
+-- frame's call on CAN leaves, the replies wrapped
+pub ports-agree : {n : Node} {f flash eeprom flash′ eeprom′ : List ℕ} {r : Answer} {steps : List UartStep}
+    → CanFrame n f flash eeprom r flash′ eeprom′ → BytesGiven (wrappedOf f) n flash eeprom steps
+    → length flash ≡ 65536 → length eeprom ≡ 1024 → n .choices .pin ≡ CanAndUart → isDeaf (n .mode) ≡ false → heldOf n ≡ [] → length f ≡ 12
+    → steps ≡ collected (tidied n) [] (0xAA ∷ f ++ (sumOf f % 256 ∷ [])) flash eeprom ++ (viaUart (after r flash′ eeprom′) ∷ [])
+ports-agree {n} {f} {flash} {eeprom} c bytes fl el pin hears empty l =
+    bytes-follow bytes
+    ∙ agreement n flash eeprom fl el pin hears empty f l
+    ∙ ap (λ (x : Step). collected (tidied n) [] (0xAA ∷ f ++ (sumOf f % 256 ∷ [])) flash eeprom ++ (viaUart x ∷ [])) (sym
+    (can-frame-said c))
