@@ -3,18 +3,17 @@
 -- and it is programming." It holds by computing the definition of restart. Assumes nothing.
 use mathlib.Core.Path.{_≡_, refl}
 use mathlib.Core.Bool.{true}
-use mathlib.Core.List.{[]}
 use lib.ListN.{replicate}
 use Rattle.node_rules.specs.declared.Pin.the-variants.{CanOnly}
 use Rattle.node_rules.specs.declared.Staged.the-variants.{Nothing}
 use Rattle.node_rules.specs.declared.Mode.the-variants.{Programming}
 use Rattle.node_rules.specs.declared.Restarted.{Restarted}
-use Rattle.node_rules.specs.Record.{padded, freshNode}
+use Rattle.node_rules.specs.Record.{plain, freshNode}
 use Rattle.node_rules.specs.Restart.{restartStep}
 
 -- the blank node, as the program makes it
 abbrev pub blankNode : Restarted
-blankNode = restartStep (freshNode (replicate 6 0)) CanOnly true (replicate 65536 0xFF) (replicate 1024 0xFF)
+blankNode = restartStep (freshNode (replicate 6 0)) (plain CanOnly) true (replicate 65536 0xFF) (replicate 1024 0xFF)
 
 -- the whole record, and that the restart was done
 pub blank-programming :
@@ -23,12 +22,9 @@ pub blank-programming :
       number = 0;
       node =
           record {
-            pin = CanOnly;
-            fixed = replicate 6 0;
-            own = record { 0 = 0xFF };
-            group = record { 0 = 0xFF };
-            held = padded [];
-            count = 0;
+            choices = record { pin = CanOnly };
+            plate = record { fixed = replicate 6 0; own = record { 0 = 0xFF }; group = record { 0 = 0xFF } };
+            receiver = record { held = replicate 15 0; count = 0 };
             mode = Programming Nothing;
           };
     }

@@ -8,7 +8,7 @@ ghost use mathlib.Core.Path.{_≡_};
 ghost use mathlib.Core.Bool.{true};
 ghost use lib.ListN.{replicate};
 ghost use Rattle.node_rules.specs.declared.Pin.the-variants.{CanOnly};
-ghost use Rattle.node_rules.specs.Record.{freshNode};
+ghost use Rattle.node_rules.specs.Record.{plain, freshNode};
 ghost use Rattle.node_rules.specs.Restart.{restartStep};
 use input::Input;
 use node_rules::Node;
@@ -30,7 +30,8 @@ const ANSWERS: usize = 15162;
 // The node with fixed bytes 0, restarted over these memories with pin CAN only and a passing self-test. Over
 // blank memories its own numbers are then 0xFF and it is programming (proofs/Blank.antt).
 fn restarted(flash: &[u8], eeprom: &[u8]) -> Node
-    ensures { λ r. ⌜ r ≡ restartStep (freshNode (replicate 6 0)) CanOnly true (now (flash .entry)) (now (eeprom .entry)) .node ⌝ }
+    ensures { λ r. ⌜
+        r ≡ restartStep (freshNode (replicate 6 0)) (plain CanOnly) true (now (flash .entry)) (now (eeprom .entry)) .node ⌝ }
 {
     let fresh = node::fresh([0; 6]);
     let r = node::restart(fresh, Pin::CanOnly, true, flash, eeprom);

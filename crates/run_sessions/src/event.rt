@@ -24,10 +24,10 @@ fn restart(s: Session, rec: &[u8], flash: &[u8], eeprom: &[u8]) -> Session {
     let f = slices::part(flash, 0, s.flash);
     let e = slices::part(eeprom, 0, s.eeprom);
     let r = node::restart(node, pin, passed, f, e);
-    restarted(s, r)
+    restarted(r, s)
 }
 
-fn restarted(s: Session, r: Restarted) -> Session {
+fn restarted(r: Restarted, s: Session) -> Session {
     let node = r.node;
     let next = session::counted(s, RESTARTS + r.number as usize);
     telling::write_node(next, &[0x01, r.number], &[], node)
@@ -40,10 +40,10 @@ fn can(s: Session, rec: &[u8], flash: &mut [u8], eeprom: &mut [u8]) -> Session {
     let f = slices::lent(flash, s.flash);
     let e = slices::lent(eeprom, s.eeprom);
     let a = node::can_frame(node, frame, f, e);
-    can_answered(s, a)
+    can_answered(a, s)
 }
 
-fn can_answered(s: Session, a: Answer) -> Session {
+fn can_answered(a: Answer, s: Session) -> Session {
     let replies = a.replies;
     let node = a.node;
     let next = session::counted(s, CAN_FRAMES + a.number as usize);
@@ -56,10 +56,10 @@ fn uart(s: Session, rec: &[u8], flash: &mut [u8], eeprom: &mut [u8]) -> Session 
     let f = slices::lent(flash, s.flash);
     let e = slices::lent(eeprom, s.eeprom);
     let a = node::uart_byte(node, byte_at(rec, 1), f, e);
-    uart_answered(s, a)
+    uart_answered(a, s)
 }
 
-fn uart_answered(s: Session, a: UartAnswer) -> Session {
+fn uart_answered(a: UartAnswer, s: Session) -> Session {
     let replies = a.replies;
     let node = a.node;
     let next = session::counted(s, UART_BYTES + a.number as usize);

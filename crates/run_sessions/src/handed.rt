@@ -5,9 +5,12 @@ use memory_address::EepromPlace;
 use memory_address::FlashAddress;
 use memory_address::Group;
 use memory_address::Module;
+use node_rules::Choices;
 use node_rules::Mode;
 use node_rules::Node;
 use node_rules::Pin;
+use node_rules::Plate;
+use node_rules::Receiver;
 use node_rules::Staged;
 
 // The four bytes from i on as a number, high byte first.
@@ -115,12 +118,18 @@ fn held(s: &[u8]) -> [u8; 15] {
 // The node's record of a hand-in, as it stands: nothing is tidied.
 pub fn node(s: &[u8]) -> Node {
     Node {
-        pin: pin(byte_at(s, 1)),
-        fixed: six(s, 2),
-        own: Module(byte_at(s, 8)),
-        group: Group(byte_at(s, 9)),
-        held: held(s),
-        count: byte_at(s, 10) as usize,
+        choices: Choices {
+            pin: pin(byte_at(s, 1)),
+        },
+        plate: Plate {
+            fixed: six(s, 2),
+            own: Module(byte_at(s, 8)),
+            group: Group(byte_at(s, 9)),
+        },
+        receiver: Receiver {
+            held: held(s),
+            count: byte_at(s, 10) as usize,
+        },
         mode: mode(
             byte_at(s, 25),
             byte_at(s, 26),

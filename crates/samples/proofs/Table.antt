@@ -19,5 +19,7 @@ use Rattle.samples.specs.Entries.{allRight}
 use Rattle.samples.specs.Samples.{samples}
 
 pub samples-hold : allRight samples ≡ true
-unfolding samples headOf identifierOf heldIn tidied uartStep wrappedOf rightlyWrapped handledTypes found done ruled flashCellsAfter rulesAt faultAt readFrom reading recipeOf itemFrames itemsFrames framesOf joined itemsCount frameCount checked translated translatedOutput firmwareSum storedSumOf starts
+unfolding samples headOf identifierOf heldIn tidied uartStep wrappedOf rightlyWrapped handledTypes found done ruled
+    flashCellsAfter rulesAt faultAt readFrom reading recipeOf itemFrames itemsFrames framesOf joined itemsCount frameCount checked
+    translated translatedOutput firmwareSum storedSumOf starts
 samples-hold = refl
