@@ -1,22 +1,10 @@
 // An answer as it goes out on UART: each of its replies is wrapped by itself.
 ghost use mathlib.Core.Path.{_≡_};
-ghost use mathlib.Core.Bool.{cond};
-ghost use lib.Dec.{eqb};
 ghost use Rattle.node_rules.specs.Uart.{onUart, wrappedReplies};
 use node_rules::Answer;
 use node_rules::UartAnswer;
 
-// The place of the last reply: the first's own where there is one.
-fn last_of(count: u8) -> usize
-    ensures { λ r. ⌜ r ≡ cond (eqb count 1) 0 1 ⌝ }
-{
-    if count == 1 {
-        return 0;
-    }
-    1
-}
-
-// The replies of an answer, each wrapped by itself. A single reply is wrapped twice, into the same place.
+// The replies of an answer, each wrapped by itself.
 fn wrapped_replies(count: u8, replies: [u8; 24]) -> [u8; 30]
     ensures { λ r. ⌜ r ≡ wrappedReplies count replies ⌝ }
 {
@@ -24,12 +12,11 @@ fn wrapped_replies(count: u8, replies: [u8; 24]) -> [u8; 30]
     if count == 0 {
         return out;
     }
-    let last = last_of(count);
     frame_uart::wrap(&replies[..12], &mut out[..15]);
-    frame_uart::wrap(
-        &replies[12 * last..12 * last + 12],
-        &mut out[15 * last..15 * last + 15],
-    );
+    if count == 1 {
+        return out;
+    }
+    frame_uart::wrap(&replies[12..], &mut out[15..]);
     out
 }
 
