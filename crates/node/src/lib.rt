@@ -173,5 +173,13 @@ pub fn uart_byte(node: Node, byte: u8, flash: &mut [u8], eeprom: &mut [u8]) -> U
     let none = node_record::none_held();
     n.receiver = none;
     let a = can_frame(n, &frame, flash, eeprom);
-    node_reply_uart::on_uart(a)
+    let replies = a.replies;
+    let wrapped = node_reply_uart::wrapped_replies(a.count, replies);
+    let then = a.node;
+    UartAnswer {
+        number: a.number,
+        count: a.count,
+        replies: wrapped,
+        node: then,
+    }
 }

@@ -5,11 +5,11 @@ use contract.Lifetimes.{Lfts}
 use borrow.Fn.World.{ArgsD, ResD}
 use denote.Triple.Clauses.{AtExit}
 use borrow.Fn.Kinds.{endedOf}
-use Rattle.node_reply_uart.proofs.on_uart.{signature as on-uart-signature}
-use Rattle.node_reply_uart.proofs.on_uart.Kinds as on-uart-kinds
-use Rattle.node_reply_uart.proofs.on_uart.Reads as on-uart-reads
+use Rattle.node_reply_uart.proofs.wrapped_replies.{signature as wrapped-replies-signature}
+use Rattle.node_reply_uart.proofs.wrapped_replies.Kinds as wrapped-replies-kinds
+use Rattle.node_reply_uart.proofs.wrapped_replies.Reads as wrapped-replies-reads
 
-pub on-uart-tight : (κs : Lfts 0) (a : ArgsD on-uart-signature κs) (r r′ : ResD on-uart-signature κs)
-    (s s′ : AtExit (endedOf 0 on-uart-kinds.ps on-uart-kinds.r) κs)
-    → on-uart-reads.Post κs a r s → on-uart-reads.Post κs a r′ s′ → r ≡ r′
-on-uart-tight κs a r r′ s s′ p q = p ∙ sym q
+pub wrapped-replies-tight : (κs : Lfts 0) (a : ArgsD wrapped-replies-signature κs) (r r′ : ResD wrapped-replies-signature κs)
+    (s s′ : AtExit (endedOf 0 wrapped-replies-kinds.ps wrapped-replies-kinds.r) κs)
+    → wrapped-replies-reads.Post κs a r s → wrapped-replies-reads.Post κs a r′ s′ → r ≡ r′
+wrapped-replies-tight κs a r r′ s s′ p q = p ∙ sym q

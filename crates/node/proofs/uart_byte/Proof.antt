@@ -222,8 +222,8 @@ slice-aggregate-can-frame c = search needs
 can-frame-requires : tie.Need-can-frame-requires
 can-frame-requires c κs = search needs
 
-on-uart-requires : tie.Need-on-uart-requires
-on-uart-requires c κs = search needs
+wrapped-replies-requires : tie.Need-wrapped-replies-requires
+wrapped-replies-requires c κs = search needs
 
 same-length-13 : tie.Need-same-length-13
 same-length-13 c = search needs
@@ -232,33 +232,35 @@ same-length-14 : tie.Need-same-length-14
 same-length-14 c = search needs
 
 returns-7 : tie.Need-returns-7
-returns-7 c = whole (c .before .before .before .before .before .before .before .before .before .before .before .before .before .before
+returns-7 c =
+    let s = c .before .before in
+    whole (s .before .before .before .before .before .before .before .before .before .before .before .before .before .before
     .before .before .before .before .before .before .before .before .before .before .before .before .before .before .before .before
-    .before .before .args .node) (c .before .before .before .before .before .before .before .before .before .before .before .before
+    .before .before .args .node) (s .before .before .before .before .before .before .before .before .before .before .before .before
     .before .before .before .before .before .before .before .before .before .before .before .before .before .before .before .if1 .n)
-    (c .before .before .before .before .before .before .before .before .before .before .before .before .before .before .before .before
+    (s .before .before .before .before .before .before .before .before .before .before .before .before .before .before .before .before
     .before .before .before .before .before .before .before .before .before .before .before .before .before .before .before .before .args
-    .byte) (c .before .before .before .before .before .before .before .before .before .before .before .before .before .before .before
+    .byte) (s .before .before .before .before .before .before .before .before .before .before .before .before .before .before .before
     .before .before .before .before .before .before .before .before .before .before .before .before .before .before .before .before
-    .before .args .flash .now) (c .before .before .before .before .before .before .before .before .before .before .before .before .before
+    .before .args .flash .now) (s .before .before .before .before .before .before .before .before .before .before .before .before .before
     .before .before .before .before .before .before .before .before .before .before .before .before .before .before .before .before
     .before .before .before .args .eeprom .now) (tidied-here
-    (c .before .before .before .before .before .before .before .before .before .before .before .before .before .before .before .before
+    (s .before .before .before .before .before .before .before .before .before .before .before .before .before .before .before .before
     .before .before .before .before .before .before .before .before .before .before .before)) (full-here
-    (c .before .before .before .before .before .before .before .before .before .before .before .before .before .before .before .before
+    (s .before .before .before .before .before .before .before .before .before .before .before .before .before .before .before .before
     .before .before .before .before .before .before .before)) (open-here
-    (c .before .before .before .before .before .before .before .before .before .before .before .before .before .before .before .before
-    .before .before .before .before)) (hears-here (c .before .before .before .before .before .before .before .before .before .before
+    (s .before .before .before .before .before .before .before .before .before .before .before .before .before .before .before .before
+    .before .before .before .before)) (hears-here (s .before .before .before .before .before .before .before .before .before .before
     .before .before .before .before .before .before .before .before))
-    (c .before .before .before .before .before .before .before .before .before .before .before .before .before .before .before .before
-    .if7 .left) (c .before .before .before .before .before .before .before .before .before .before .before .before .unwrap .result) _ _ _
-    (c .before .before .before .before .before .can-frame .result)
-    (c .before .before .before .before .before .before .before .before .before .none-held .result) (c .on-uart .result)
-    (c .before .before .before .before .before .before .before .before .before .before .before .before .unwrap .ensures .0)
-    (c .before .before .before .before .before .before .before .before .before .before .if8 .left)
-    (c .before .before .before .before .before .before .before .before .before .before .before .before .unwrap .ensures .1)
-    (c .before .before .before .before .before .before .before .before .before .none-held .ensures)
-    (c .before .before .before .before .before .can-frame .ensures) (c .on-uart .ensures)
+    (s .before .before .before .before .before .before .before .before .before .before .before .before .before .before .before .before
+    .if7 .left) (s .before .before .before .before .before .before .before .before .before .before .before .before .unwrap .result) _ _ _
+    (s .before .before .before .before .before .can-frame .result)
+    (s .before .before .before .before .before .before .before .before .before .none-held .result) _
+    (s .before .before .before .before .before .before .before .before .before .before .before .before .unwrap .ensures .0)
+    (s .before .before .before .before .before .before .before .before .before .before .if8 .left)
+    (s .before .before .before .before .before .before .before .before .before .before .before .before .unwrap .ensures .1)
+    (s .before .before .before .before .before .before .before .before .before .none-held .ensures)
+    (s .before .before .before .before .before .can-frame .ensures) (simp (c .before .wrapped-replies .ensures))
 
 pub uart-byte-spec : {M : Type 1} → statement M
 uart-byte-spec =
@@ -304,7 +306,7 @@ uart-byte-spec =
     none-held-requires
     slice-aggregate-can-frame
     can-frame-requires
-    on-uart-requires
+    wrapped-replies-requires
     same-length-13
     same-length-14
     returns-7)
