@@ -6,9 +6,10 @@ use mathlib.Core.Logic.{_⊎_, ⊎-elim}
 use Prim.Native.Nat.{ℕ, _+_, _-_, _≤_, _<_}
 use native.Mathlib.Nat.{add-sub-cancel-left, add-assoc}
 use native.Mathlib.Omega.{arith}
+use borrow.Author.Tests.{le-leb, lt-leb}
 use lib.ListN.{length, getD, take, drop, length-append, length-take, length-drop, List·getD-append}
 use lib.Seq.{drop-drop, getD-append-add, getD-take, getD-drop, length-take-le, take-at, drop-at}
-use Rattle.base.specs.Parts.{part, patch}
+use Rattle.base.specs.Parts.{part, patch, putAt}
 
 -- a part that lies within is as long as it says
 pub part-length : (m : List ℕ) (a k : ℕ) → a + k ≤ length m → length (part m a k) ≡ k
@@ -23,6 +24,16 @@ pub put-back : (m : List ℕ) (a k : ℕ) (ys new : List ℕ) → ys ≡ new →
     → take a m ++ (ys ++ drop ((a + k) - a) (drop a m)) ≡ patch m a new
 unfolding patch
 put-back m a k ys new e l = simp (add-sub-cancel-left, drop-drop, e, l)
+
+-- what is put where it fits replaces a part
+pub put-fits : (m : List ℕ) (a : ℕ) (new : List ℕ) → a + length new ≤ length m → putAt m a new ≡ patch m a new
+unfolding putAt
+put-fits m a new h = simp (le-leb _ _ h)
+
+-- where it doesn't fit all stays
+pub put-not : (m : List ℕ) (a : ℕ) (new : List ℕ) → length m < a + length new → putAt m a new ≡ m
+unfolding putAt
+put-not m a new h = simp (lt-leb _ _ h)
 
 module _ (m : List ℕ) (a : ℕ) (new : List ℕ) (fits : a + length new ≤ length m) where
   pub length-patch : length (patch m a new) ≡ length m

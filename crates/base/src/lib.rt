@@ -1,7 +1,7 @@
-// What every crate may use: readers that never run past the end, and the laws of parts, patches, choices and stores.
+// What every crate may use: readers and a writer that never run past the end, and the laws of parts, patches, choices and stores.
 ghost use mathlib.Core.Path.{_≡_};
 ghost use lib.ListN.{getD};
-ghost use Rattle.base.specs.Parts.{listed};
+ghost use Rattle.base.specs.Parts.{listed, putAt};
 
 // The byte at i, or 0 behind the end.
 pub fn byte_at(s: &[u8], i: usize) -> u8
@@ -44,4 +44,16 @@ pub fn eight(s: &[u8], i: usize) -> [u8; 8]
         byte_at(s, i + 6),
         byte_at(s, i + 7),
     ]
+}
+
+// Puts bytes into an output at a place; where they don't fit all of the output stays as it is.
+pub fn put(output: &mut [u8], at: usize, new: &[u8])
+    ensures { λ _. ⌜ now (output .exit) ≡ putAt (now (output .entry)) at (now (new .entry)) ⌝ }
+{
+    if new.len() <= output.len() {
+        if at <= output.len() - new.len() {
+            let end = at + new.len();
+            bytes::copy(new, &mut output[at..end]);
+        }
+    }
 }

@@ -16,7 +16,7 @@ pub fn put(output: &mut [u8], at: usize, frame: [u8; 12])
     requires { ⌜ at + 12 ≤ length (now output) ⌝ }
     ensures { λ _. ⌜ now (output .exit) ≡ patch (now (output .entry)) at frame ⌝ }
 {
-    bytes::copy(&frame, &mut output[at..at + 12]);
+    base::put(output, at, &frame);
 }
 
 // Puts a 0x030 frame and its 0x040 frame into the output at a byte.

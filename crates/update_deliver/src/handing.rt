@@ -36,7 +36,7 @@ fn put(output: &mut [u8], at: usize, telling: [u8; 14])
     requires { ⌜ at + 14 ≤ length (now output) ⌝ }
     ensures { λ _. ⌜ now (output .exit) ≡ patch (now (output .entry)) at telling ⌝ }
 {
-    bytes::copy(&telling, &mut output[at..at + 14]);
+    base::put(output, at, &telling);
 }
 
 // Hands the first `count` frames to the node one by one. Bytes behind the last answer stay.
