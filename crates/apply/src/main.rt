@@ -11,9 +11,9 @@ ghost use Rattle.node_rules.specs.declared.Pin.the-variants.{CanOnly};
 ghost use Rattle.node_rules.specs.Record.{freshNode};
 ghost use Rattle.node_rules.specs.Restart.{restartStep};
 use input::Input;
-use recipe::Translated;
 use node_rules::Node;
 use node_rules::Pin;
+use recipe::Translated;
 
 // The longest recipe that is applied, in bytes.
 const MOST: usize = 4096;

@@ -1,5 +1,5 @@
--- Demand one over the calls' real contracts (Calls.antt), for any record, any bytes and lent memories of any length and content. Each theorem
--- is the law of crates/node_rules at what the contract's equation says.
+-- Demand one over the calls' real contracts (Calls.antt), for any record, any bytes and lent memories of any length and content. Each
+-- theorem is the law of crates/node_rules at what the contract's equation says.
 -- Assumes nothing.
 use mathlib.Core.Path.{_≡_, _∙_, refl, sym, ap, subst}
 use mathlib.Core.Bool.{Bool, true}
@@ -58,7 +58,8 @@ module _ {n : Node} {f flash eeprom flash′ eeprom′ : List ℕ} {r : Answer} 
   -- in normal mode FLASH stays, and EEPROM but for BOOTFL
   pub can-frame-normal-spares : (started : Bool) → n .mode ≡ Normal started → ButBootfl flash eeprom flash′ eeprom′
   can-frame-normal-spares started m =
-      subst (λ (x : Step). ButBootfl flash eeprom (x .flash) (x .eeprom)) (sym (can-frame-said c)) (can-normal-spares n started f flash eeprom m)
+      subst (λ (x : Step). ButBootfl flash eeprom (x .flash) (x .eeprom)) (sym (can-frame-said c))
+      (can-normal-spares n started f flash eeprom m)
 
   -- what it returns is tidy
   pub can-frame-is-tidy : tidied (r .node) ≡ r .node
@@ -90,12 +91,16 @@ module _ {n : Node} {b : ℕ} {flash eeprom flash′ eeprom′ : List ℕ} {r : 
 
   pub uart-byte-lengths : (length flash′ ≡ length flash) × (length eeprom′ ≡ length eeprom)
   uart-byte-lengths =
-      let l = uart-lengths n b flash eeprom in
-      (ap (λ (x : UartStep). length (x .flash)) (uart-byte-said c) ∙ l .0, ap (λ (x : UartStep). length (x .eeprom)) (uart-byte-said c) ∙ l .1)
+      let l = uart-lengths n b flash eeprom in (
+        ap (λ (x : UartStep). length (x .flash)) (uart-byte-said c) ∙ l .0,
+        ap (λ (x : UartStep). length (x .eeprom)) (uart-byte-said c)
+            ∙ l .1,
+      )
 
   pub uart-byte-normal-spares : (started : Bool) → n .mode ≡ Normal started → ButBootfl flash eeprom flash′ eeprom′
   uart-byte-normal-spares started m =
-      subst (λ (x : UartStep). ButBootfl flash eeprom (x .flash) (x .eeprom)) (sym (uart-byte-said c)) (uart-normal-spares n started b flash eeprom m)
+      subst (λ (x : UartStep). ButBootfl flash eeprom (x .flash) (x .eeprom)) (sym (uart-byte-said c))
+      (uart-normal-spares n started b flash eeprom m)
 
   pub uart-byte-is-tidy : tidied (r .node) ≡ r .node
   uart-byte-is-tidy =

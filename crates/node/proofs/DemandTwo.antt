@@ -111,7 +111,8 @@ pub ports-agree : {n : Node} {f flash eeprom flash′ eeprom′ : List ℕ} {r :
     → CanFrame n f flash eeprom r flash′ eeprom′ → BytesGiven (wrappedOf f) n flash eeprom steps
     → length flash ≡ 65536 → length eeprom ≡ 1024 → n .choices .pin ≡ CanAndUart → isDeaf (n .mode) ≡ false → heldOf n ≡ [] → length f ≡ 12
     → steps ≡ collected (tidied n) [] (0xAA ∷ f ++ (sumOf f % 256 ∷ [])) flash eeprom ++ (viaUart (after r flash′ eeprom′) ∷ [])
-ports-agree {n} {f} {flash} {eeprom} c bytes fl el pin hears none l =
+ports-agree {n} {f} {flash} {eeprom} c bytes fl el pin hears empty l =
     bytes-follow bytes
-    ∙ agreement n flash eeprom fl el pin hears none f l
-    ∙ ap (λ (x : Step). collected (tidied n) [] (0xAA ∷ f ++ (sumOf f % 256 ∷ [])) flash eeprom ++ (viaUart x ∷ [])) (sym (can-frame-said c))
+    ∙ agreement n flash eeprom fl el pin hears empty f l
+    ∙ ap (λ (x : Step). collected (tidied n) [] (0xAA ∷ f ++ (sumOf f % 256 ∷ [])) flash eeprom ++ (viaUart x ∷ [])) (sym
+    (can-frame-said c))

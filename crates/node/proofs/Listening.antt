@@ -124,7 +124,8 @@ module _ (n t : Node) (b : ℕ) (flash eeprom : List ℕ) (e : t ≡ tidied n) (
   unfolding tidied
   byte-judged ys h =
       byte-tidied n b flash eeprom
-      ∙ with-byte (tidied n) flash eeprom isFull (open-pin (n .choices .pin) (rw e at opened)) (rw e at hears) (tidied-mode n) xs b holds ys h
+      ∙ with-byte (tidied n) flash eeprom isFull (open-pin (n .choices .pin) (rw e at opened)) (rw e at hears)
+      (tidied-mode n) xs b holds ys h
       ∙ ap (λ (x : Node). judged x ys flash eeprom) (sym e)
 
   -- 10: a byte that is skipped
@@ -145,7 +146,11 @@ module _ (n t : Node) (b : ℕ) (flash eeprom : List ℕ) (e : t ≡ tidied n) (
       let k : length ys ≡ length xs + 1 = length-append xs (b ∷ []) in
       let j : length xs < 14 = rw counts at l in
       let more : incomplete ys ≡ true = lt-ltb (length ys) 15 (omega (arith, k)) in
-      ap (λ (r : Receiver). silent 10 (withReceiver t (record { held = set (r .held) (r .count) b; count = r .count + 1 })) flash eeprom) receives
+      ap (λ (r : Receiver). silent 10 (withReceiver t (record {
+        held = set (r .held)
+            (r .count) b;
+        count = r .count + 1;
+      })) flash eeprom) receives
       ∙ ap (λ (h : List ℕ). silent 10 (withReceiver t (record { held = h; count = length xs + 1 })) flash eeprom) (room-behind xs b few)
       ∙ ap (λ (c : ℕ). silent 10 (withReceiver t (record { held = padded ys; count = c })) flash eeprom) (sym k)
       ∙ sym
@@ -178,7 +183,8 @@ module _ (n t : Node) (b : ℕ) (flash eeprom : List ℕ) (e : t ≡ tidied n) (
         byte-judged ys (held-behind xs b (inl (λ z. let w : _≡_ {A = ℕ} 14 0 = sym fourteen ∙ z in omega arith)))
         ∙ cond-false (incomplete ys) (silent 10 (holding t ys) flash eeprom) _ (le-ltb (length ys) 15 (omega (arith, whole-length)))
         ∙ ap
-        (λ (w : List ℕ). cond (rightlyWrapped w) (viaUart (canStep (holding t []) (innerOf w) flash eeprom)) (silent 11 (holding t (heldAfterBad (t .choices) w)) flash eeprom))
+        (λ (w : List ℕ). cond (rightlyWrapped w) (viaUart (canStep (holding t []) (innerOf w) flash eeprom)) (silent 11 (holding t
+        (heldAfterBad (t .choices) w)) flash eeprom))
         (sym whole-is)
 
     right-is : (number : ℕ) → number ≡ unwrapNumber (set (t .receiver .held) 14 b) 12

@@ -14,7 +14,8 @@ use Rattle.node_rules.specs.Outcomes.{decided}
 use Rattle.node_rules.specs.Replies.{replying}
 use Rattle.node_rules.specs.Step.{after, flashAfter, eepromAfter, nodeAfter, answering, done, canStep}
 
-pub stepped : (n : Node) (f flash eeprom : List ℕ) (t : Node) (isFull : Bool) (e : Effect) (flash′ eeprom′ : List ℕ) (r : Replies) (z : Node)
+pub stepped : (n : Node) (f flash eeprom : List ℕ) (t : Node) (isFull : Bool) (e : Effect) (flash′ eeprom′ : List ℕ) (r : Replies)
+    (z : Node)
     → t ≡ tidied n → isFull ≡ full flash eeprom → e ≡ decided t isFull f
     → flash′ ≡ flashAfter (e .memory) (dataIn f) flash → eeprom′ ≡ eepromAfter (e .memory) (dataIn f) eeprom
     → r ≡ replying (e .reply) t f flash′ eeprom′ → z ≡ nodeAfter (e .next) t

@@ -60,7 +60,13 @@ fn full(flash: &[u8], eeprom: &[u8]) -> bool
 }
 
 // Restart with these choices and the self-test's verdict. 1 where a memory has the wrong length: nothing is taken then, no choice either.
-pub fn restart_with(node: Node, choices: Choices, passed: bool, flash: &[u8], eeprom: &[u8]) -> Restarted
+pub fn restart_with(
+    node: Node,
+    choices: Choices,
+    passed: bool,
+    flash: &[u8],
+    eeprom: &[u8],
+) -> Restarted
     ensures { λ r. ⌜ r ≡ restartStep node choices passed (now (flash .entry)) (now (eeprom .entry)) ⌝ }
 {
     if full(flash, eeprom) {

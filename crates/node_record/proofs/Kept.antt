@@ -84,7 +84,15 @@ pub all-cleared : (r : Receiver) → length (r .held) ≡ 15 → r .count ≤ 14
 unfolding heldIn
 all-cleared r l k a m =
     let n : length (take (r .count) (r .held)) ≡ r .count = length-take-le (r .count) (r .held) (omega arith) in
-    simp (le-leb (r .count) 14 k, le-leb (r .count) 15 (omega arith), eq-eqb (getD (r .held) 0 0) 0xAA a, n, drop-of-length-le (r .held) {i = 15} (omega arith), append-nil)
+    simp (
+      le-leb (r .count) 14 k,
+      le-leb (r .count) 15 (omega arith),
+      eq-eqb (getD (r .held) 0 0) 0xAA a,
+      n,
+      drop-of-length-le
+          (r .held) {i = 15} (omega arith),
+      append-nil,
+    )
 
 -- nothing counts
 pub none-kept : (r : Receiver) → mayHold r ≡ false → receiving [] ≡ receiving (heldIn r)

@@ -48,7 +48,8 @@ type-held (Handled k) n xs f = refl
 
 frame-held : (n : Node) (xs f : List ℕ) → unless (frameOutcomes (holding n xs) f) (askedOf n f) ≡ unless (frameOutcomes n f) (askedOf n f)
 frame-held n xs f =
-    ap (λ (os : List Outcome). unless (outcome 4 (misshapen f) ∷ outcome 5 (isResponse f) ∷ os) (askedOf n f)) (type-held (found (typeOf f)) n xs f)
+    ap (λ (os : List Outcome). unless (outcome 4 (misshapen f) ∷ outcome 5 (isResponse f) ∷ os) (askedOf n f)) (type-held (found
+    (typeOf f)) n xs f)
 
 -- ---- an open, running node: pin CAN and UART, a mode that is neither error nor waiting, and tidy; full memories
 
@@ -84,7 +85,8 @@ module _ (m : Node) (flash eeprom : List ℕ) (isFull : full flash eeprom ≡ tr
       (cond (not r) (refused 11) (unless (frameOutcomes (holding m xs) (innerOf ys)) (askedOf (holding m xs) (innerOf ys)))))
       (holding m xs) ys flash eeprom
       ≡ cond i (silent 10 (holding m ys) flash eeprom)
-      (cond r (viaUart (canStep (holding m []) (innerOf ys) flash eeprom)) (silent 11 (holding m (heldAfterBad (m .choices) ys)) flash eeprom))
+      (cond r (viaUart (canStep (holding m []) (innerOf ys) flash eeprom)) (silent 11 (holding m (heldAfterBad
+      (m .choices) ys)) flash eeprom))
   unfolding done
   judged xs ys true r = refl
   judged xs ys false false = refl
@@ -98,7 +100,8 @@ module _ (m : Node) (flash eeprom : List ℕ) (isFull : full flash eeprom ≡ tr
   unfolding uartStep
   with-byte xs b h ys e =
       ap (λ (n : Node). received n b flash eeprom) (holding-tidy m xs h tidy)
-      ∙ ap (λ (zs : List ℕ). heldDone (heldDecided (holding m xs) (full flash eeprom) (heldWith zs b)) (holding m xs) (heldWith zs b) flash eeprom) (held-held xs h)
+      ∙ ap (λ (zs : List ℕ). heldDone (heldDecided (holding m xs) (full flash eeprom) (heldWith zs b)) (holding m xs)
+      (heldWith zs b) flash eeprom) (held-held xs h)
       ∙ ap (λ (zs : List ℕ). heldDone (heldDecided (holding m xs) (full flash eeprom) zs) (holding m xs) zs flash eeprom) e
       ∙ ap (λ (x : Effect). heldDone x (holding m xs) ys flash eeprom) (rw (isFull, ap isClosed pin, hears) refl)
       ∙ judged xs ys (incomplete ys) (rightlyWrapped ys)
@@ -135,7 +138,8 @@ module _ (m : Node) (flash eeprom : List ℕ) (isFull : full flash eeprom ≡ tr
   first-byte b t e = with-byte [] b tt (cond t (b ∷ []) []) (ap (λ (s : Bool). cond s (b ∷ []) []) e) ∙ go t
     where
       go : (t : Bool)
-          → cond (incomplete (cond t (b ∷ []) [])) (silent 10 (holding m (cond t (b ∷ []) [])) flash eeprom) (fifteenth (cond t (b ∷ []) []))
+          → cond (incomplete (cond t (b ∷ []) [])) (silent 10 (holding m (cond t (b ∷ []) [])) flash eeprom) (fifteenth (cond t
+          (b ∷ []) []))
           ≡ silent 10 (holding m (cond t (b ∷ []) [])) flash eeprom
       go true = refl
       go false = refl
@@ -195,7 +199,8 @@ module _ (n : Node) (flash eeprom : List ℕ) (fl : length flash ≡ 65536) (el 
   together : (bs : List ℕ) (b : ℕ) → length (heldOf n ++ (bs ++ (b ∷ []))) ≡ 15 → getD (heldOf n ++ (bs ++ (b ∷ []))) 0 0 ≡ 0xAA
       → bytesIn (bs ++ (b ∷ [])) (state n flash eeprom)
       ≡ collected (tidied n) (heldOf n) bs flash eeprom
-      ++ (fifteenth (tidied n) flash eeprom (sizes-full flash eeprom fl el) still-open still-hears still-tidy (heldOf n ++ (bs ++ (b ∷ []))) ∷ [])
+      ++ (fifteenth (tidied n) flash eeprom (sizes-full flash eeprom fl el) still-open still-hears still-tidy (heldOf n ++ (bs ++
+      (b ∷ []))) ∷ [])
   unfolding tidied
   together bs b l e =
       first bs

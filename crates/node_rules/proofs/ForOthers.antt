@@ -169,16 +169,20 @@ type-others : (n : Node) (f : List ℕ) (k : Found) → FoundFits (typeOf f) k �
     → Cases (FromOthers n f) (typeOutcomes k n f) (askedBy k (n .mode) f)
 unfolding FoundFits fitting
 type-others n f Unhandled w o = (λ _. (inl refl, inl refl, inl refl), λ _. (inl refl, inl refl, inl refl))
-type-others n f (Handled k) w o =
-    (λ _. (inl refl, inl refl, inl refl),
-    λ h. (λ _. (inl refl, inl refl, inl refl),
+type-others n f (Handled k) w o = (
+  λ _. (inl refl, inl refl, inl refl),
+  λ h. (
+    λ _. (inl refl, inl refl, inl refl),
     λ i. by-addressing (k .«frame_type») n f (w .1) (k .addressing) (k .request) (k .handled) (w .0) o
-    (not-false (isFor (k .addressing) (n .plate) f) i) (not-false (handledHere (k .handled) (n .mode)) h)))
+        (not-false (isFor (k .addressing) (n .plate) f) i) (not-false (handledHere (k .handled) (n .mode)) h),
+  ),
+)
 
 frame-others : (n : Node) (f : List ℕ) → ForOthers n f → Cases (FromOthers n f) (frameOutcomes n f) (askedOf n f)
-frame-others n f o =
-    (λ _. (inl refl, inl refl, inl refl),
-    λ _. (λ _. (inl refl, inl refl, inl refl), λ _. type-others n f (found (typeOf f)) (found-fits (typeOf f)) o))
+frame-others n f o = (
+  λ _. (inl refl, inl refl, inl refl),
+  λ _. (λ _. (inl refl, inl refl, inl refl), λ _. type-others n f (found (typeOf f)) (found-fits (typeOf f)) o),
+)
 
 -- ---- what it leaves
 
@@ -202,7 +206,8 @@ can-others n f flash eeprom o =
       flash-left t f (dataIn f) flash (e .memory) (c .0),
       eeprom-left t f (dataIn f) eeprom (e .memory) (c .0),
       ⊎-elim (λ x. inl (ap (λ (y : Next). nodeAfter y t) x)) (λ x. inr (ap (λ (y : Next). nodeAfter y t) (x .0), x .1)) (c .1),
-      ⊎-elim (λ x. inl (ap (λ (y : Reply). replying y t f (flashAfter (e .memory) (dataIn f) flash) (eepromAfter (e .memory) (dataIn f) eeprom) .count) x)) (λ x. inr x) (c .2),
+      ⊎-elim (λ x. inl (ap (λ (y : Reply). replying y t f (flashAfter (e .memory) (dataIn f) flash) (eepromAfter (e .memory)
+          (dataIn f) eeprom) .count) x)) (λ x. inr x) (c .2),
     )
 
 -- on UART the same but for held bytes, of the frame that the byte completes
@@ -215,11 +220,22 @@ uart-others n b flash eeprom o =
     let f = innerOf xs in
     let e = heldDecided t (full flash eeprom) xs in
     let m = holding t (heldAfter (e .number) t xs) in
-    let c = unless-by (FromOthers t f) (uartOutcomes t (full flash eeprom) b) (askedOf t f)
-    (λ _. (inl refl, inl refl, inl refl), λ _. (λ _. (inl refl, inl refl, inl refl), λ _. (λ _. (inl refl, inl refl, inl refl),
-    λ _. (λ _. (inl refl, inl refl, inl refl), λ _. (λ _. (inl refl, inl refl, inl refl), λ _. frame-others t f o))))) in (
+    let c = unless-by (FromOthers t f) (uartOutcomes t (full flash eeprom) b) (askedOf t f) (
+      λ _. (inl refl, inl refl, inl refl),
+      λ _. (
+        λ _. (inl refl, inl refl, inl refl),
+        λ _. (
+          λ _. (inl refl, inl refl, inl refl),
+          λ _. (λ _. (inl refl, inl refl, inl refl), λ _. (λ _. (inl refl, inl refl, inl refl), λ _. frame-others t f o)),
+        ),
+      ),
+    ) in (
       flash-left t f (dataIn f) flash (e .memory) (c .0),
       eeprom-left t f (dataIn f) eeprom (e .memory) (c .0),
-      ⊎-elim (λ x. inl (ap (λ (y : Next). emptied (nodeAfter y m)) x)) (λ x. inr (ap (λ (y : Next). emptied (nodeAfter y m)) (x .0), x .1)) (c .1),
-      ⊎-elim (λ x. inl (ap (λ (y : Reply). replying y m f (flashAfter (e .memory) (dataIn f) flash) (eepromAfter (e .memory) (dataIn f) eeprom) .count) x)) (λ x. inr x) (c .2),
+      ⊎-elim (λ x. inl (ap (λ (y : Next). emptied (nodeAfter y m)) x)) (λ x. inr (
+        ap (λ (y : Next). emptied (nodeAfter y m)) (x .0),
+        x .1,
+      )) (c .1),
+      ⊎-elim (λ x. inl (ap (λ (y : Reply). replying y m f (flashAfter (e .memory) (dataIn f) flash) (eepromAfter (e .memory)
+          (dataIn f) eeprom) .count) x)) (λ x. inr x) (c .2),
     )

@@ -196,7 +196,8 @@ module _ (n : Node) (b : ℕ) (flash eeprom : List ℕ) where
 
   pub uart-normal : (c : Bool) → uartStep n b flash eeprom .answer .node .mode ≡ Normal c → n .mode ≡ Normal c
   unfolding uartStep done tidied
-  uart-normal c e = tidy-normal (n .mode) c (after-normal (comesTo .next) (holding (tidied n) (heldAfter (comesTo .number) (tidied n) withByte)) c e)
+  uart-normal c e = tidy-normal (n .mode) c (after-normal (comesTo .next) (holding (tidied n) (heldAfter (comesTo .number)
+      (tidied n) withByte)) c e)
 
   pub uart-programming : isProgramming (n .mode) ≡ false → isProgramming (uartStep n b flash eeprom .answer .node .mode) ≡ true
       → typeOf (innerOf (heldWith (heldOf (tidied n)) b)) ≡ 0x100

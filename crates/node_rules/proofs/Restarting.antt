@@ -65,7 +65,7 @@ module _ (n : Node) (choices : Choices) (flash eeprom : List ℕ) (fl : length f
   unfolding restartStep
   restart-programming e = rw (sizes-full flash eeprom fl el, eq-eqb (getD eeprom 0 0) 0xFF e) refl
 
-  restart-normal : (getD eeprom 0 0 ≡ 0xFF → ⊥)
+  pub restart-normal : (getD eeprom 0 0 ≡ 0xFF → ⊥)
       → restartStep n choices true flash eeprom ≡ record { number = 0; node = restartedIn (Normal (starts flash)) n choices eeprom }
   unfolding restartStep
   restart-normal m = rw (sizes-full flash eeprom fl el, ne-eqb (getD eeprom 0 0) 0xFF m) refl

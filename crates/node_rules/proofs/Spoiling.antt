@@ -85,8 +85,11 @@ abbrev onCan : Node → List ℕ → List ℕ → List ℕ → List (Memory × L
 onCan n f flash eeprom = (decided (tidied n) (full flash eeprom) f .memory, dataIn f) ∷ []
 
 abbrev onUartByte : Node → ℕ → List ℕ → List ℕ → List (Memory × List ℕ)
-onUartByte n b flash eeprom =
-    (heldDecided (tidied n) (full flash eeprom) (heldWith (heldOf (tidied n)) b) .memory, dataIn (innerOf (heldWith (heldOf (tidied n)) b))) ∷ []
+onUartByte n b flash eeprom = (
+  heldDecided (tidied n) (full flash eeprom) (heldWith (heldOf (tidied n)) b) .memory,
+  dataIn (innerOf (heldWith (heldOf
+      (tidied n)) b)),
+) ∷ []
 
 pub can-protected : (n : Node) (f flash eeprom : List ℕ) (i : ℕ) → protected i ≡ true
     → getD (canStep n f flash eeprom .flash) i 0 ≡ getD flash i 0

@@ -141,16 +141,25 @@ only-ten : (n : Node) (full : Bool) (xs : List ℕ) → heldDecided n full xs .n
 only-ten n full xs =
     let Q : ℕ → Type 0 = λ number. number ≡ 10 → incomplete xs ≡ true in
     let other : (number : ℕ) → (number ≡ 10 → ⊥) → Q number = λ number m e. absurd (m e) in
-    unless-by (λ (e : Effect). Q (e .number)) (heldOutcomes n full xs) (askedOf n (innerOf xs))
-    (λ _. other 1 (λ e. omega arith),
-    λ _. (λ _. other 2 (λ e. omega arith),
-    λ _. (λ _. other 3 (λ e. omega arith),
-    λ _. (λ i e. i,
-    λ _. (λ _. other 11 (λ e. omega arith),
-    λ _. among-cases Q (frameOutcomes n (innerOf xs)) (askedOf n (innerOf xs))
-    (frame-among Q n (innerOf xs) (other 4 (λ e. omega arith)) (other 5 (λ e. omega arith)) (other 6 (λ e. omega arith))
-    (other 7 (λ e. omega arith)) (other 8 (λ e. omega arith)) (other 9 (λ e. omega arith)))
-    (asked-of-zero n (innerOf xs)) (other 0 (λ e. omega arith)))))))
+    unless-by (λ (e : Effect). Q (e .number)) (heldOutcomes n full xs) (askedOf n (innerOf xs)) (
+      λ _. other 1 (λ e. omega arith),
+      λ _. (
+        λ _. other 2 (λ e. omega arith),
+        λ _. (
+          λ _. other 3 (λ e. omega arith),
+          λ _. (
+            λ i e. i,
+            λ _. (
+              λ _. other 11 (λ e. omega arith),
+              λ _. among-cases Q (frameOutcomes n (innerOf xs)) (askedOf n (innerOf xs))
+                  (frame-among Q n (innerOf xs) (other 4 (λ e. omega arith)) (other 5 (λ e. omega arith)) (other 6 (λ e. omega arith))
+                  (other 7 (λ e. omega arith)) (other 8 (λ e. omega arith)) (other 9 (λ e. omega arith)))
+                  (asked-of-zero n (innerOf xs)) (other 0 (λ e. omega arith)),
+            ),
+          ),
+        ),
+      ),
+    )
 
 -- whatever the number, where 10 comes only with a frame that is incomplete
 after-holdable : (number : ℕ) (n : Node) (xs : List ℕ) → (number ≡ 10 → Holdable xs) → Holdable (heldAfter number n xs)
@@ -167,7 +176,8 @@ uart-tidy n b flash eeprom =
     let xs = heldWith (heldOf t) b in
     let e = heldDecided t (full flash eeprom) xs in
     after-tidy (e .next) (holding t (heldAfter (e .number) t xs))
-    (holding-tidy t (heldAfter (e .number) t xs) (after-holdable (e .number) t xs (λ z. with-holdable (heldOf t) b (held-holdable (t .receiver)) (only-ten t (full flash eeprom) xs z))) (tidied-mode n))
+    (holding-tidy t (heldAfter (e .number) t xs) (after-holdable (e .number) t xs (λ z. with-holdable (heldOf t) b (held-holdable
+    (t .receiver)) (only-ten t (full flash eeprom) xs z))) (tidied-mode n))
     (decided-legally (heldOutcomes t (full flash eeprom) xs) t (innerOf xs))
 
 -- ---- restart and a fresh node
@@ -175,7 +185,8 @@ uart-tidy n b flash eeprom =
 reached-tidy : (passed : Bool) (flash eeprom : List ℕ) → tidyMode (modeReached passed flash eeprom) ≡ modeReached passed flash eeprom
 reached-tidy passed flash eeprom =
     by-cond (λ (m : Mode). tidyMode m ≡ m) passed _ Error
-    (λ _. by-cond (λ (m : Mode). tidyMode m ≡ m) (eqb (getD eeprom 0 0) 0xFF) (Programming Nothing) (Normal (starts flash)) (λ _. refl) (λ _. refl))
+    (λ _. by-cond (λ (m : Mode). tidyMode m ≡ m) (eqb (getD eeprom 0 0) 0xFF) (Programming Nothing) (Normal (starts flash)) (λ _. refl)
+    (λ _. refl))
     (λ _. refl)
 
 pub restart-tidy : (n : Node) (c : Choices) (passed : Bool) (flash eeprom : List ℕ)

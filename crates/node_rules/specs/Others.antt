@@ -58,5 +58,6 @@ abbrev pub LeftByOthersOnUart : Node → List ℕ → List ℕ → List ℕ → 
 LeftByOthersOnUart n f flash eeprom s =
     (s .flash ≡ flash)
     × ((s .eeprom ≡ eeprom) ⊎ ((s .eeprom ≡ bootflSet eeprom 0x00) × ByZero n f))
-    × ((emptied (s .answer .node) ≡ emptied n) ⊎ ((emptied (s .answer .node) ≡ emptied (withMode n Waiting)) × (ByZero n f ⊎ ByGroup 0x101 n f)))
+    × ((emptied (s .answer .node) ≡ emptied n) ⊎ ((emptied (s .answer .node) ≡ emptied (withMode n Waiting)) ×
+    (ByZero n f ⊎ ByGroup 0x101 n f)))
     × ((s .answer .count ≡ 0) ⊎ (ByGroup 0x103 n f ⊎ (ByGroup 0x105 n f ⊎ (ByGroup 0x10D n f ⊎ ByGroup 0x10F n f))))

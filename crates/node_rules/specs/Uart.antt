@@ -58,8 +58,8 @@ uartOutcomes n full b = heldOutcomes n full (heldWith (heldOf n) b)
 unfoldable pub heldAfterBad : Choices → List ℕ → List ℕ
 heldAfterBad c fifteen = []
 
--- "Afterwards", as far as it is about held bytes: 1, 2 and 3 "all unchanged"; 10 "byte held or skipped"; 11; and else "A complete UART frame
--- empties the held bytes whatever follows."
+-- "Afterwards", as far as it is about held bytes: 1, 2 and 3 "all unchanged"; 10 "byte held or skipped"; 11; and else "A complete UART
+-- frame empties the held bytes whatever follows."
 abbrev pub heldAfter : ℕ → Node → List ℕ → List ℕ
 heldAfter number n xs =
     cond (leb 1 number && leb number 3) (heldOf n)

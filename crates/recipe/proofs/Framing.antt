@@ -61,7 +61,8 @@ module _ (m g : ℕ) where
 
 -- the address that an address frame names
 pub frame-names : (m g command a : ℕ) → a < 0x1000000
-    → getD (addressFrame m g command a) 4 0 * 65536 + getD (addressFrame m g command a) 5 0 * 256 + getD (addressFrame m g command a) 6 0 ≡ a
+    → getD (addressFrame m g command a) 4 0 * 65536 + getD (addressFrame m g command a) 5 0 * 256 + getD
+    (addressFrame m g command a) 6 0 ≡ a
 frame-names m g command a h = omega arith
 
 -- frame 2 + 2 i of a legal Block names its address plus 8 i, in its bytes 4, 5 and 6, and is a write
@@ -142,7 +143,8 @@ sized (row a d) h = h .1
 items-twelve : (m g : ℕ) (is : List Item) → LegalItems is → Twelve (itemsFrames m g is)
 unfolding itemsFrames
 items-twelve m g [] h = tt
-items-twelve m g (i ∷ is) h = twelve-append (itemFrames m g i) (itemsFrames m g is) (item-twelve m g i (sized i (h .0))) (items-twelve m g is (h .1))
+items-twelve m g (i ∷ is) h = twelve-append (itemFrames m g i) (itemsFrames m g is) (item-twelve m g i (sized i (h .0)))
+    (items-twelve m g is (h .1))
 
 -- every frame of a legal recipe has twelve bytes
 pub frames-twelve : (r : Recipe) → Legal r → Twelve (framesOf r)

@@ -8,3 +8,4 @@ pub mod Accepts
 pub mod Framing
 pub mod Refusals
 pub mod Plainly
+pub mod Agreeing

@@ -21,7 +21,7 @@ use Rattle.recipe.specs.Faults.{kindOf, known, addressOf, outOfPlace, fa
 use Rattle.recipe.specs.Reading.{Reading, Stop, atEnd, fault, sizeOf, itemsAt, behind, readFrom, reading, recipeOf}
 use Rattle.recipe.specs.declared.Translated.the-variants.{Frames, Refused}
 use Rattle.recipe.specs.Frames.{frameCount}
-use Rattle.recipe.specs.Translation.{answerAt, lastly, checked, translated}
+use Rattle.recipe.specs.Translation.{answerAt, unlessShort, checked, translated}
 use Rattle.recipe.proofs.Order.{Faultless, faultless}
 use Rattle.recipe.proofs.Steps.{read-end, read-fault, read-on}
 
@@ -115,15 +115,25 @@ module _ (looks : ℕ)
   on-block : Claim 0x02
   on-block b f =
       in-front (block (addressOf (0x02 ∷ xs)) (part (0x02 ∷ xs) 4 64)) (0x02 ∷ xs) (drop 68 (0x02 ∷ xs)) number _
-      (start 64 (0x02 ∷ xs) (b, bytes) (f .whole))
-      (not-false _ (f .address), part-length (0x02 ∷ xs) 4 64 (f .whole), bytes-take 64 (drop 4 (0x02 ∷ xs)) (bytes-drop 4 (0x02 ∷ xs) (b, bytes)))
+      (start 64 (0x02 ∷ xs) (b, bytes) (f .whole)) (
+        not-false _ (f .address),
+        part-length (0x02 ∷ xs) 4 64 (f .whole),
+        bytes-take 64 (drop 4 (0x02 ∷ xs)) (bytes-drop 4 (0x02 ∷ xs)
+            (b, bytes)),
+      )
       (ih (drop 68 (0x02 ∷ xs)) (place + 68) (number + 1) (bytes-drop 68 (0x02 ∷ xs) (b, bytes)) (omega arith) (omega (arith, fewer f)))
 
   on-row : Claim 0x03
   on-row b f =
       in-front (row (addressOf (0x03 ∷ xs)) (part (0x03 ∷ xs) 4 8)) (0x03 ∷ xs) (drop 12 (0x03 ∷ xs)) number _
-      (start 8 (0x03 ∷ xs) (b, bytes) (f .whole))
-      (not-false _ (f .address), part-length (0x03 ∷ xs) 4 8 (f .whole), bytes-take 8 (drop 4 (0x03 ∷ xs)) (bytes-drop 4 (0x03 ∷ xs) (b, bytes)))
+      (start 8 (0x03 ∷ xs) (b, bytes) (f .whole)) (
+        not-false _ (f .address),
+        part-length (0x03 ∷ xs) 4 8 (f .whole),
+        bytes-take 8 (drop 4 (0x03 ∷ xs)) (bytes-drop 4 (0x03 ∷ xs) (
+          b,
+          bytes,
+        )),
+      )
       (ih (drop 12 (0x03 ∷ xs)) (place + 12) (number + 1) (bytes-drop 12 (0x03 ∷ xs) (b, bytes)) (omega arith) (omega (arith, fewer f)))
 
   on-leave : Claim 0x0F
@@ -157,7 +167,8 @@ only (suc looks) (k ∷ xs) place number bytes more few = go (only looks) (fault
         subst (Printed (k ∷ xs) number) (sym (read-on looks (k ∷ xs) place number false (omega arith) e))
         (on-kind looks ih xs place number (bytes .1) more few k (bytes .0) (faultless (k ∷ xs) number false e))
     go ih (suc n) e = λ s.
-        absurd (no-end (sym (ap (λ (r : Reading). r .stop) (read-fault looks (k ∷ xs) place number false (omega arith) (λ z. omega arith))) ∙ s))
+        absurd (no-end (sym (ap (λ (r : Reading). r .stop) (read-fault looks (k ∷ xs) place number false (omega arith)
+        (λ z. omega arith))) ∙ s))
 
 -- ---- the whole
 
@@ -227,7 +238,7 @@ pub accepts-only : (input : List ℕ) (room count : ℕ) → Bytes input → tra
 unfolding translated checked
 accepts-only input room count b e = go (reading input .stop) refl e
   where
-    go : (s : Stop) → reading input .stop ≡ s → lastly (answerAt s (length input) (frameCount (recipeOf input))) room ≡ Frames count
+    go : (s : Stop) → reading input .stop ≡ s → unlessShort (answerAt s (length input) (frameCount (recipeOf input))) room ≡ Frames count
         → Legal (recipeOf input) × (input ≡ printed (recipeOf input)) × (count ≡ frameCount (recipeOf input)) × (12 * count ≤ room)
     go (fault n p) q e = absurd (let z : _≡_ {A = ℕ} 0 1 = cc in omega arith)
     go (atEnd false) q e = absurd (let z : _≡_ {A = ℕ} 0 1 = cc in omega arith)

@@ -18,7 +18,10 @@ NoneHolds [] = Unit {0}
 NoneHolds (r ∷ rs) = (r .1 ≡ false) × NoneHolds rs
 
 -- the number is that of the first condition that holds
-pub first-holds : (earlier later : List (ℕ × Bool)) (number : ℕ) → NoneHolds earlier → firstOf (earlier ++ ((number, true) ∷ later)) ≡ number
+pub first-holds : (earlier later : List (ℕ × Bool)) (number : ℕ) → NoneHolds earlier → firstOf (earlier ++ ((
+  number,
+  true,
+) ∷ later)) ≡ number
 first-holds [] later number h = refl
 first-holds (r ∷ rs) later number h = rw (h .0) (first-holds rs later number (h .1))
 

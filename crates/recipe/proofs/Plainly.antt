@@ -3,7 +3,6 @@
 -- Assumes nothing.
 use mathlib.Core.Path.{_≡_, refl, ap, _∙_}
 use mathlib.Core.List.{List, [], _∷_, append-assoc}
-use mathlib.Core.Logic.{_⊎_}
 use Prim.Native.Nat.{ℕ, _+_, _-_, _≤_, _<_}
 use native.Mathlib.Omega.{arith}
 use lib.ListN.{length, getD, take, drop, length-set}
@@ -13,7 +12,7 @@ use Rattle.base.proofs.Patched.{elsewhere-patch}
 use Rattle.memory_address.specs.Places.{flashCells, eepromCells, eepromCell, bootfl}
 use Rattle.recipe.specs.Items.{Item, block, row, Recipe, Legal, LegalItem, LegalItems}
 use Rattle.recipe.proofs.Inside.{block-inside, row-inside}
-use Rattle.recipe.specs.Plain.{Memories, plainItem, plainItems, plainly}
+use Rattle.recipe.specs.Plain.{Memories, plainItem, plainItems, plainly, OutsideFlash, OutsideEeprom, Each}
 
 -- cells that lie within are set as a patch
 pub sets-patch : (m : List ℕ) (a : ℕ) (cells : List ℕ) → a + length cells ≤ length m → sets m a cells ≡ patch m a cells
@@ -63,19 +62,6 @@ plain-sizes r m =
     (p .0, length-set (plainItems (r .items) m .eeprom) (eepromCell bootfl) 0 ∙ p .1)
 
 -- ---- what no item names
-
--- cell k of FLASH, or of EEPROM, is none of an item's
-abbrev pub OutsideFlash : ℕ → Item → Type 0
-OutsideFlash k (block a d) = (k < a) ⊎ (a + length d ≤ k)
-OutsideFlash k (row a d) = Unit {0}
-
-abbrev pub OutsideEeprom : ℕ → Item → Type 0
-OutsideEeprom k (block a d) = Unit {0}
-OutsideEeprom k (row a d) = (k < eepromCell a) ⊎ (eepromCell a + length d ≤ k)
-
-abbrev pub Each : (Item → Type 0) → List Item → Type 0
-Each P [] = Unit {0}
-Each P (i ∷ is) = P i × Each P is
 
 item-flash-kept : (k : ℕ) (i : Item) (m : Memories) → LegalItem i → length (m .flash) ≡ flashCells → OutsideFlash k i
     → getD (plainItem i m .flash) k 0 ≡ getD (m .flash) k 0

@@ -119,5 +119,6 @@ read-printed r rest h =
     (read-opened (r .moduleNumber) (r .groupNumber) is (0x0F ∷ rest) (h .each) (omega (arith, h .few))
     ∙ ap (behind is)
     (ap (λ (n : ℕ). readFrom n (0x0F ∷ rest) (length (opened (r .moduleNumber) (r .groupNumber) is)) (2 + length is) false) looks
-    ∙ read-leave (2047 - length is) (length (opened (r .moduleNumber) (r .groupNumber) is)) (2 + length is) rest (omega arith) (omega (arith, h .few))
+    ∙ read-leave (2047 - length is) (length (opened (r .moduleNumber) (r .groupNumber) is)) (2 + length is) rest (omega arith) (omega
+    (arith, h .few))
     ∙ rw (far, next)))

@@ -1,8 +1,9 @@
 -- The plain reading of a recipe over two memories, by its items alone. Document 01: "Read plainly, Block and Row set their cells in
 -- order and Leave sets BOOTFL to 0x00."
-use Prim.Native.Nat.{ℕ}
+use Prim.Native.Nat.{ℕ, _+_, _≤_, _<_}
 use mathlib.Core.List.{List, [], _∷_}
-use lib.ListN.{set}
+use mathlib.Core.Logic.{_⊎_}
+use lib.ListN.{length, set}
 use lib.Seq.{sets}
 use Rattle.memory_address.specs.Places.{eepromCell, bootfl}
 use Rattle.recipe.specs.Items.{Item, block, row, Recipe}
@@ -27,3 +28,18 @@ plainLeave m = record { flash = m .flash; eeprom = set (m .eeprom) (eepromCell b
 
 unfoldable pub plainly : Recipe → Memories → Memories
 plainly r m = plainLeave (plainItems (r .items) m)
+
+-- ---- what no item names
+
+-- cell k of FLASH, or of EEPROM, is none of an item's
+abbrev pub OutsideFlash : ℕ → Item → Type 0
+OutsideFlash k (block a d) = (k < a) ⊎ (a + length d ≤ k)
+OutsideFlash k (row a d) = Unit {0}
+
+abbrev pub OutsideEeprom : ℕ → Item → Type 0
+OutsideEeprom k (block a d) = Unit {0}
+OutsideEeprom k (row a d) = (k < eepromCell a) ⊎ (eepromCell a + length d ≤ k)
+
+abbrev pub Each : (Item → Type 0) → List Item → Type 0
+Each P [] = Unit {0}
+Each P (i ∷ is) = P i × Each P is

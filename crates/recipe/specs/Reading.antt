@@ -31,8 +31,8 @@ itemsAt input =
 abbrev pub behind : List Item → Reading → Reading
 behind is r = record { items = is ++ r .items; stop = r .stop }
 
--- `input` is what is left, from byte `place` on, and starts with item `number`. (At most 2,049 places are looked at, as item 2,049
--- is at fault: with none left to look at it never goes on.)
+-- `input` is what is left, from byte `place` on, and starts with item `number`. `looks` is how many items may still be looked at; the
+-- reading starts with 2,049 and finds a fault at item 2,049, so that it never runs out: it is there that the definition may recur.
 unfoldable pub readFrom : ℕ → List ℕ → ℕ → ℕ → Bool → Reading
 readFrom zero input place number afterLeave = record { items = []; stop = fault 25 place }
 readFrom (suc looks) input place number afterLeave =

@@ -17,16 +17,16 @@ answerAt (atEnd false) size count = Refused 20 size
 answerAt (atEnd true) size count = Frames count
 
 -- "Last: 26 output shorter than needed, place 0", where the output has `room` bytes
-abbrev pub lastly : Translated → ℕ → Translated
-lastly (Refused number place) room = Refused number place
-lastly (Frames count) room = cond (ltb room (12 * count)) (Refused 26 0) (Frames count)
+abbrev pub unlessShort : Translated → ℕ → Translated
+unlessShort (Refused number place) room = Refused number place
+unlessShort (Frames count) room = cond (ltb room (12 * count)) (Refused 26 0) (Frames count)
 
 -- the answer to a recipe but for the output's length
 unfoldable pub checked : List ℕ → Translated
 checked input = answerAt (reading input .stop) (length input) (frameCount (recipeOf input))
 
 unfoldable pub translated : List ℕ → ℕ → Translated
-translated input room = lastly (checked input) room
+translated input room = unlessShort (checked input) room
 
 -- the output after an answer: "output untouched", or the frames and "bytes behind the last frame stay"
 abbrev pub outputAfter : Translated → List ℕ → List ℕ → List ℕ

@@ -88,7 +88,8 @@ pub fn put_block(
     requires { ⌜ (place + 68 ≤ length (now input)) × (at + 216 ≤ length (now output)) × (address .0 < 0x1000000) ⌝ }
     ensures { λ _. ⌜
         now (output .exit)
-        ≡ patch (now (output .entry)) at (joined (itemFrames (m .0) (g .0) (block (address .0) (part (now (input .entry)) (place + 4) 64)))) ⌝ }
+        ≡ patch (now (output .entry)) at
+        (joined (itemFrames (m .0) (g .0) (block (address .0) (part (now (input .entry)) (place + 4) 64)))) ⌝ }
 {
     let blank = [0xFFu8; 8];
     let number = address.0;
@@ -109,7 +110,8 @@ pub fn put_row(
     requires { ⌜ (place + 12 ≤ length (now input)) × (at + 24 ≤ length (now output)) ⌝ }
     ensures { λ _. ⌜
         now (output .exit)
-        ≡ patch (now (output .entry)) at (joined (itemFrames (m .0) (g .0) (row (address .0) (part (now (input .entry)) (place + 4) 8)))) ⌝ }
+        ≡ patch (now (output .entry)) at
+        (joined (itemFrames (m .0) (g .0) (row (address .0) (part (now (input .entry)) (place + 4) 8)))) ⌝ }
 {
     let from = place + 4;
     put_pair(output, at, m, g, 0x02, address.0, &input[from..from + 8]);

@@ -78,7 +78,8 @@ module _ (s o : List ℕ) (m g : ℕ) (legal : reading s .stop ≡ atEnd true) (
     pub emitted-at : c .place < length s → AtItem s c
     emitted-at h = go (fault-or-none s c)
       where
-        go : (faultAt (drop (c .place) s) (c .number) (c .ended) ≡ 0) ⊎ (faultAt (drop (c .place) s) (c .number) (c .ended) ≡ 0 → ⊥) → AtItem s c
+        go : (faultAt (drop (c .place) s) (c .number) (c .ended) ≡ 0) ⊎ (faultAt (drop (c .place) s) (c .number) (c .ended) ≡ 0 → ⊥)
+            → AtItem s c
         go (inl f) = at-item s c (k .kept) _ h refl f
         go (inr f) =
             absurd (false≢true (not-both _ _
@@ -92,12 +93,17 @@ module _ (s o : List ℕ) (m g : ℕ) (legal : reading s .stop ≡ atEnd true) (
         let stop = on-end s c (k .kept .stands .few) h in
         let none : readOn s c .items ≡ [] = ap (λ (r : Reading). r .items) stop in
         let ended : c .ended ≡ true = ended-is (c .ended) (sym (k .kept .stop ∙ ap (λ (r : Reading). r .stop) stop) ∙ legal) in
-        let d = sent-end o 0 (bytesOf m g (reading s) false) o₁ (12 * c .frames) (bytesOf m g (readOn s c) (c .ended)) (k .sent) (rw (none, ended)) in
+        let d = sent-end o 0 (bytesOf m g (reading s) false) o₁ (12 * c .frames) (bytesOf m g (readOn s c) (c .ended)) (k .sent) (rw
+        (none, ended)) in
         let n : itemsCount (readOn s c .items) ≡ 0 = ap itemsCount none in
         let left : leaveLeft (c .ended) ≡ 0 = ap leaveLeft ended in
         let whole : bytesOf m g (reading s) false ≡ joined (itemsFrames m g (reading s .items) ++ (leaveFrame m g ∷ [])) =
         sym (joined-append (itemsFrames m g (reading s .items)) (leaveFrame m g ∷ [])) in
-        let end : 0 + length (bytesOf m g (reading s) false) ≡ 12 * (itemsCount (reading s .items) + 1) = omega (arith, d .1, k .kept .count) in
+        let end : 0 + length (bytesOf m g (reading s) false) ≡ 12 * (itemsCount (reading s .items) + 1) = omega (
+          arith,
+          d .1,
+          k .kept .count,
+        ) in
         d .0
         ∙ ap₂ (λ (x : ℕ) (u : List ℕ). u ++ drop x o) end whole
         ∙ ap₂ (λ (a b : ℕ).
@@ -122,17 +128,21 @@ module _ (s o : List ℕ) (m g : ℕ) (legal : reading s .stop ≡ atEnd true) (
               let kind = eqb-true (kindOf there) 0x0F l in
               let behind : readOn s (nextOf s c) .items ≡ [] = after-leave s (nextOf s c) (stands-next s c at (k .kept .stands)) l in
               let none : itemsAt there ≡ [] = rw kind in
-              let here : readOn s c .items ≡ [] = ap (λ (r : Reading). r .items) (on-next s c at) ∙ ap₂ (λ (is js : List Item). is ++ js) none behind in
+              let here : readOn s c .items ≡ [] = ap (λ (r : Reading). r .items) (on-next s c at) ∙ ap₂ (λ
+              (is js : List Item). is ++ js) none behind in
               ap₂ (λ (is : List Item) (b : Bool). joined (itemsFrames m g is) ++ cond b [] (leaveFrame m g)) here (not-ended s c at)
-              ∙ sym (ap₂ (λ (fs : List (List ℕ)) (is : List Item). joined fs ++ (joined (itemsFrames m g is) ++ cond (nextOf s c .ended) [] (leaveFrame m g)))
+              ∙ sym (ap₂ (λ (fs : List (List ℕ)) (is : List Item). joined fs ++ (joined (itemsFrames m g is) ++ cond
+              (nextOf s c .ended) [] (leaveFrame m g)))
               (leave-frames m g there whole kind) behind ∙ rw l)
           go (inr l) =
               ap₂ (λ (r : Reading) (b : Bool). bytesOf m g r b) (on-next s c at) (not-ended s c at)
               ∙ ap (λ (x : List ℕ). x ++ leaveFrame m g)
               (ap joined (items-append m g (itemsAt there) (readOn s (nextOf s c) .items))
               ∙ joined-append (itemsFrames m g (itemsAt there)) (itemsFrames m g (readOn s (nextOf s c) .items)))
-              ∙ append-assoc (joined (itemsFrames m g (itemsAt there))) (joined (itemsFrames m g (readOn s (nextOf s c) .items))) (leaveFrame m g)
-              ∙ sym (ap₂ (λ (fs : List (List ℕ)) (b : Bool). joined fs ++ bytesOf m g (readOn s (nextOf s c)) b) (other-frames m g there whole l) l)
+              ∙ append-assoc (joined (itemsFrames m g (itemsAt there))) (joined (itemsFrames m g (readOn s (nextOf s c) .items)))
+              (leaveFrame m g)
+              ∙ sym (ap₂ (λ (fs : List (List ℕ)) (b : Bool). joined fs ++ bytesOf m g (readOn s (nextOf s c)) b)
+              (other-frames m g there whole l) l)
 
       item-room : 12 * c .frames + 12 * framesOfKind (kindOf there) ≤ length o
       unfolding frameCount recipeOf

@@ -40,7 +40,8 @@ module _ (s : List ℕ) (place number : ℕ) (ended : Bool) where
             (rw (size-there, length-drop place s) l))
 
         module _ (l : 1 + body ≤ length s - place) (a : ℕ) (e : a ≡ addressOf (drop place s)) where
-          illegal-same : (t : Bool) → addressIllegal (getD s place 0) a ≡ t → addressIllegal (kindOf (drop place s)) (addressOf (drop place s)) ≡ t
+          illegal-same : (t : Bool) → addressIllegal (getD s place 0) a ≡ t → addressIllegal (kindOf (drop place s)) (addressOf
+              (drop place s)) ≡ t
           illegal-same t h = ap₂ addressIllegal (kind-at s place) (sym e) ∙ h
 
           pub illegal-there : addressIllegal (getD s place 0) a ≡ true → 24 ≡ faultAt (drop place s) number ended
@@ -61,7 +62,8 @@ module _ (s : List ℕ) (place number : ℕ) (ended : Bool) where
               }))
 
 -- the cursor behind an item, from the body's length and the frames that the code found for the kind it read
-pub next-is : (s : List ℕ) (c : Cursor) (body frames : ℕ) → body ≡ bodyLength (getD s (c .place) 0) → frames ≡ framesOfKind (getD s (c .place) 0)
+pub next-is : (s : List ℕ) (c : Cursor) (body frames : ℕ) → body ≡ bodyLength (getD s (c .place) 0) → frames ≡ framesOfKind (getD s
+    (c .place) 0)
     → record { place = c .place + (1 + body); number = c .number + 1; ended = eqb (getD s (c .place) 0) 0x0F; frames = c .frames + frames }
     ≡ nextOf s c
 next-is s c body frames p q = rw (kind-at s (c .place), p, q)

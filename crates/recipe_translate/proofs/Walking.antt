@@ -30,7 +30,8 @@ unfolding itemsCount
 count-there input =
     go (true-or-false (eqb (kindOf input) 0x02)) (true-or-false (eqb (kindOf input) 0x03)) (true-or-false (eqb (kindOf input) 0x0F))
   where
-    go : (eqb (kindOf input) 0x02 ≡ true) ⊎ (eqb (kindOf input) 0x02 ≡ false) → (eqb (kindOf input) 0x03 ≡ true) ⊎ (eqb (kindOf input) 0x03 ≡ false)
+    go : (eqb (kindOf input) 0x02 ≡ true) ⊎ (eqb (kindOf input) 0x02 ≡ false) → (eqb (kindOf input) 0x03 ≡ true) ⊎ (eqb
+        (kindOf input) 0x03 ≡ false)
         → (eqb (kindOf input) 0x0F ≡ true) ⊎ (eqb (kindOf input) 0x0F ≡ false)
         → itemsCount (itemsAt input) + 1 ≡ framesOfKind (kindOf input) + leaveLeft (eqb (kindOf input) 0x0F)
     go (inl b) r l = rw (eqb-true (kindOf input) 0x02 b)
@@ -47,7 +48,8 @@ few-frames kind =
 pub count-append : (is js : List Item) → itemsCount (is ++ js) ≡ itemsCount is + itemsCount js
 unfolding itemsCount
 count-append [] js = sym (zero-add (itemsCount js))
-count-append (i ∷ is) js = ap (λ (n : ℕ). itemCount i + n) (count-append is js) ∙ sym (add-assoc (itemCount i) (itemsCount is) (itemsCount js))
+count-append (i ∷ is) js = ap (λ (n : ℕ). itemCount i + n) (count-append is js) ∙ sym (add-assoc (itemCount i) (itemsCount is)
+    (itemsCount js))
 
 -- where a cursor can stand
 pub record Stands (s : List ℕ) (c : Cursor) : Type 0 where
@@ -75,7 +77,8 @@ module _ (s : List ℕ) (c : Cursor) (few : c .number ≤ 2049) where
   unfolding from
   on-fault h n e z =
       ap from looks
-      ∙ read-fault (2049 - c .number) (drop (c .place) s) (c .place) (c .number) (c .ended) (simp length-drop (omega arith)) (λ q. z (e ∙ q))
+      ∙ read-fault (2049 - c .number) (drop (c .place) s) (c .place) (c .number) (c .ended) (simp length-drop (omega arith)) (λ q. z (e
+      ∙ q))
       ∙ ap (λ (k : ℕ). record { items = []; stop = fault k (c .place) }) (sym e)
 
 neither : (x y : Bool) → (x || y) ≡ false → x ≡ false
@@ -132,10 +135,20 @@ kept-start s = record {
 
 module _ (s : List ℕ) (c : Cursor) (k : Kept s c) where
   pub at-item : (n : ℕ) → c .place < length s → n ≡ faultAt (drop (c .place) s) (c .number) (c .ended) → n ≡ 0 → AtItem s c
-  at-item n h e z = record { inside = h; faultless = sym e ∙ z; few = k .stands .few; small = omega (arith, k .stands .few, k .stands .small) }
+  at-item n h e z = record {
+    inside = h;
+    faultless = sym e ∙ z;
+    few = k .stands .few;
+    small = omega (
+      arith,
+      k .stands .few,
+      k .stands .small,
+    );
+  }
 
   -- the answer by how the reading from here stops, with the frames so far and those of what is read from here
-  answers : (r : Reading) → readOn s c ≡ r → checked s ≡ answerAt (r .stop) (length s) (c .frames + itemsCount (r .items) + leaveLeft (c .ended))
+  answers : (r : Reading) → readOn s c ≡ r → checked s ≡ answerAt (r .stop) (length s) (c .frames + itemsCount (r .items) + leaveLeft
+      (c .ended))
   unfolding checked frameCount recipeOf
   answers r e =
       ap₂ (λ (t : Stop) (n : ℕ). answerAt t (length s) n) (k .stop ∙ ap (λ (x : Reading). x .stop) e)

@@ -10,9 +10,9 @@ ghost use lib.ListN.{length, drop};
 ghost use Rattle.recipe.specs.Frames.{framesOf, joined, frameCount};
 ghost use Rattle.recipe.specs.Reading.{atEnd, reading, recipeOf};
 ghost use Rattle.recipe.specs.Translation.{checked, translated, translatedOutput};
+use cursor::Cursor;
 use memory_address::Group;
 use memory_address::Module;
-use cursor::Cursor;
 use recipe::Translated;
 
 // Reads a recipe through: its frame count, or the refusal of the first item at fault, or of the end.
@@ -54,7 +54,8 @@ fn put_frames(input: &[u8], output: &mut [u8])
     requires { ⌜ (reading (now input) .stop ≡ atEnd true) × (12 * frameCount (recipeOf (now input)) ≤ length (now output)) ⌝ }
     ensures { λ _. ⌜
         now (output .exit)
-        ≡ joined (framesOf (recipeOf (now (input .entry)))) ++ drop (12 * frameCount (recipeOf (now (input .entry)))) (now (output .entry)) ⌝ }
+        ≡ joined (framesOf (recipeOf (now (input .entry))))
+        ++ drop (12 * frameCount (recipeOf (now (input .entry)))) (now (output .entry)) ⌝ }
 {
     let m = Module(base::byte_at(input, 1));
     let g = Group(base::byte_at(input, 2));

@@ -4,8 +4,8 @@ use crate::hand::Handed;
 use crate::header::Header;
 use crate::line::Line;
 use crate::slices;
-use recipe::Translated;
 use node_rules::Pin;
+use recipe::Translated;
 
 // The line of a refusal.
 fn refused(number: u8, place: usize, output: &[u8]) -> Line {

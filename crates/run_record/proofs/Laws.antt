@@ -23,14 +23,17 @@ pub mode-written : (mode : Mode) (m s k a : ℕ) → m ≡ modeByte mode → s �
 mode-written mode m s k a em es ek ea = rw (em, es, ek, ea) refl
 
 -- the record's bytes, with the fixed and the held ones written out one by one
-pub written-out : (n : Node) (p : ℕ) (last : List ℕ) → length (n .fixed) ≡ 6 → length (n .held) ≡ 15 → p ≡ pinByte (n .pin)
-    → last ≡ modeBytes (n .mode)
-    → p ∷ (listed (n .fixed) 0 6 ++ (n .own .0 ∷ n .group .0 ∷ n .count % 256 ∷ (listed (n .held) 0 14 ++ last))) ≡ nodeBytes n
+pub written-out : (n : Node) (p : ℕ) (last : List ℕ) → length (n .plate .fixed) ≡ 6 → length (n .receiver .held) ≡ 15
+    → p ≡ pinByte (n .choices .pin) → last ≡ modeBytes (n .mode)
+    → p ∷ (listed (n .plate .fixed) 0 6 ++ (n .plate .own .0 ∷ n .plate .group .0 ∷ n .receiver .count % 256 ∷
+    (listed (n .receiver .held) 0 14 ++ last))) ≡ nodeBytes n
 unfolding nodeBytes
 written-out n p last six fifteen pin mode =
-    let numbers : List ℕ → List ℕ = λ t. n .own .0 ∷ n .group .0 ∷ n .count % 256 ∷ t in
-    ap (λ (t : List ℕ). p ∷ (t ++ numbers (listed (n .held) 0 14 ++ last))) (listed-all (n .fixed) 6 six)
-    ∙ ap (λ (t : List ℕ). p ∷ (n .fixed ++ numbers (t ++ last))) (listed-part (n .held) 0 14 (omega arith))
+    let fixed = n .plate .fixed in
+    let held = n .receiver .held in
+    let numbers : List ℕ → List ℕ = λ t. n .plate .own .0 ∷ n .plate .group .0 ∷ n .receiver .count % 256 ∷ t in
+    ap (λ (t : List ℕ). p ∷ (t ++ numbers (listed held 0 14 ++ last))) (listed-all fixed 6 six)
+    ∙ ap (λ (t : List ℕ). p ∷ (fixed ++ numbers (t ++ last))) (listed-part held 0 14 (omega arith))
     ∙ rw (pin, mode) refl
 
 -- a digest may be taken modulo 4,294,967,291 before it is multiplied

@@ -13,7 +13,6 @@ use Rattle.node_rules.specs.declared.Mode.{Mode}
 use Rattle.node_rules.specs.declared.Mode.the-variants.{Normal, Programming, Error, Waiting}
 use Rattle.node_rules.specs.declared.Node.{Node}
 use Rattle.node_rules.specs.Requests.{stagedIn}
-use Rattle.node_rules.specs.Step.{numberOf}
 
 -- "pin (0 CAN only, 1 CAN and UART)"
 abbrev pub pinByte : Pin → ℕ
@@ -46,6 +45,11 @@ kindByte (Read a) = kindOf a
 kindByte (Write a) = kindOf a
 kindByte (Erase f) = 0
 
+-- the number of an address of either kind
+abbrev pub numberOf : Address → ℕ
+numberOf (Flash f) = f .0
+numberOf (Eeprom e) = e .0
+
 abbrev pub addressOf : Staged → ℕ
 addressOf Nothing = 0
 addressOf (Read a) = numberOf a
@@ -64,4 +68,6 @@ modeBytes m = modeByte m ∷ stagedByte (stagedIn m) ∷ kindByte (stagedIn m) �
 -- one that passes 255, which no tidied record has, the low byte. The 14 held bytes are the first 14 of the record's, as they stand.
 unfoldable pub nodeBytes : Node → List ℕ
 nodeBytes n =
-    pinByte (n .pin) ∷ (n .fixed ++ (n .own .0 ∷ n .group .0 ∷ n .count % 256 ∷ (take 14 (n .held) ++ modeBytes (n .mode))))
+    pinByte (n .choices .pin) ∷
+    (n .plate .fixed ++ (n .plate .own .0 ∷ n .plate .group .0 ∷ n .receiver .count % 256 ∷
+    (take 14 (n .receiver .held) ++ modeBytes (n .mode))))

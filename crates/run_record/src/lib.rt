@@ -21,10 +21,13 @@ fn pin_byte(p: Pin) -> u8
 pub fn bytes_of(n: Node) -> [u8; 31]
     ensures { λ r. ⌜ r ≡ nodeBytes n ⌝ }
 {
-    let pin = n.pin;
-    let fixed = n.fixed;
-    let held = n.held;
+    let choices = n.choices;
+    let plate = n.plate;
+    let receiver = n.receiver;
     let mode = n.mode;
+    let pin = choices.pin;
+    let fixed = plate.fixed;
+    let held = receiver.held;
     let first = pin_byte(pin);
     let last = last::last_of(mode);
     [
@@ -35,9 +38,9 @@ pub fn bytes_of(n: Node) -> [u8; 31]
         fixed[3],
         fixed[4],
         fixed[5],
-        n.own.0,
-        n.group.0,
-        (n.count % 256) as u8,
+        plate.own.0,
+        plate.group.0,
+        (receiver.count % 256) as u8,
         held[0],
         held[1],
         held[2],

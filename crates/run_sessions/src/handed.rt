@@ -1,10 +1,10 @@
 // What a record of the stream hands in: numbers, fixed bytes, a node's record.
+use base::byte_at;
 use memory_address::Address;
 use memory_address::EepromPlace;
 use memory_address::FlashAddress;
 use memory_address::Group;
 use memory_address::Module;
-use base::byte_at;
 use node_rules::Mode;
 use node_rules::Node;
 use node_rules::Pin;

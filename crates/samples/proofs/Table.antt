@@ -11,14 +11,13 @@ use Rattle.recipe.specs.Faults.{rulesAt, faultAt}
 use Rattle.recipe.specs.Reading.{readFrom, reading, recipeOf}
 use Rattle.recipe.specs.Frames.{itemFrames, itemsFrames, framesOf, joined, itemsCount, frameCount}
 use Rattle.recipe.specs.Translation.{checked, translated, translatedOutput}
-use Rattle.node_rules.specs.Record.{heldOf, tidied}
-use Rattle.node_rules.specs.Table.{handledTypes, found}
-use Rattle.node_rules.specs.Outcomes.{decided}
-use Rattle.node_rules.specs.Step.{acted}
+use Rattle.node_rules.specs.Record.{heldIn, tidied}
+use Rattle.node_rules.specs.Requests.{handledTypes, found}
+use Rattle.node_rules.specs.Step.{done}
 use Rattle.node_rules.specs.Uart.{uartStep}
 use Rattle.samples.specs.Entries.{allRight}
 use Rattle.samples.specs.Samples.{samples}
 
 pub samples-hold : allRight samples ≡ true
-unfolding samples headOf identifierOf heldOf tidied uartStep wrappedOf rightlyWrapped handledTypes found decided acted ruled flashCellsAfter rulesAt faultAt readFrom reading recipeOf itemFrames itemsFrames framesOf joined itemsCount frameCount checked translated translatedOutput firmwareSum storedSumOf starts
+unfolding samples headOf identifierOf heldIn tidied uartStep wrappedOf rightlyWrapped handledTypes found done ruled flashCellsAfter rulesAt faultAt readFrom reading recipeOf itemFrames itemsFrames framesOf joined itemsCount frameCount checked translated translatedOutput firmwareSum storedSumOf starts
 samples-hold = refl

@@ -12,7 +12,7 @@ use Rattle.recipe.specs.declared.Translated.{Translated}
 use Rattle.recipe.specs.declared.Translated.the-variants.{Frames, Refused}
 use Rattle.recipe.specs.Translation.{translated, translatedOutput}
 use Rattle.samples.specs.Entries.{Sample, bytes, number, verdict, S1, S2, S3, S4, S5, S6, S7, S8, S9, S10, S11, Blank}
-use Rattle.samples.specs.Uart.{blankFlash, before, fed, numbersOf}
+use Rattle.samples.specs.Uart.{blankFlash, numbersOf, fed}
 
 -- S3: "AA 10 00 F0 F0 FF FF 05 0A FF FF FF FF F9 A5"
 abbrev pub enterOnUart : List ℕ
@@ -38,10 +38,10 @@ samples =
     bytes S2 (headOf 0x1FFFFFFF) (0xFF ∷ 0xF1 ∷ 0xFF ∷ 0xFF ∷ []) ∷
     number S2 (identifierOf (0xFF ∷ 0xF1 ∷ 0xFF ∷ 0xFF ∷ [])) 0x1FFFFFFF ∷
     -- "S3 .. to node 05, 0A in normal mode, pin CAN and UART": fourteen bytes are held, the fifteenth is done
-    bytes S3 (numbersOf before enterOnUart) (replicate 14 10 ++ (0 ∷ [])) ∷
+    bytes S3 (numbersOf enterOnUart) (replicate 14 10 ++ (0 ∷ [])) ∷
     -- "reply S4 AA 10 01 05 0A FF FF 03 04 FF FF FF FF 21 A5": one reply, and it is this
-    number S4 (fed before enterOnUart .answer .count) 1 ∷
-    bytes S4 (take 15 (fed before enterOnUart .answer .replies))
+    number S4 (fed enterOnUart .answer .count) 1 ∷
+    bytes S4 (take 15 (fed enterOnUart .answer .replies))
     (0xAA ∷ 0x10 ∷ 0x01 ∷ 0x05 ∷ 0x0A ∷ 0xFF ∷ 0xFF ∷ 0x03 ∷ 0x04 ∷ 0xFF ∷ 0xFF ∷ 0xFF ∷ 0xFF ∷ 0x21 ∷ 0xA5 ∷ []) ∷
     -- "S5 write 0x00FFF8 legal; S6 0x000FF8 and 0x010000 not."
     verdict S5 (isLegal (ruled 0x00FFF8 0x02)) true ∷

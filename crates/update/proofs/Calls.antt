@@ -1,99 +1,115 @@
--- Answer three over the real contracts: a call of the translator and a run of calls of `node::can_frame`, each witnessed by the contract of
--- the function called (the generated `Reads`), whatever outcome it allows. Nothing is said of a body.
+-- Demand 3 over the real contracts: a call of the translator, and then calls of `node::can_frame` one after the other, whatever outcome
+-- their contracts allow. Such calls are a delivery, since the contract of each is one step of it.
 -- Assumes nothing.
-use mathlib.Core.Path.{_≡_, _∙_, refl, ap, subst}
+use mathlib.Core.Path.{_≡_, _∙_, sym, refl, ap, subst}
 use mathlib.Core.Bool.{Bool, true, false}
-use mathlib.Core.List.{List, [], _∷_}
-use Prim.Native.Nat.{ℕ, _*_, _≤_}
-use contract.Lifetimes.{Lfts}
-use borrow.Fn.World.{ArgsD, ResD}
-use denote.Triple.Clauses.{AtExit}
-use borrow.Fn.Kinds.{endedOf}
+use mathlib.Core.List.{List, [], _∷_, _++_}
+use Prim.Native.Nat.{ℕ, _*_, _≤_, _<_}
 use native.Mathlib.Omega.{arith}
 use lib.Dec.{ltb}
-use lib.ListN.{length}
+use lib.ListN.{length, drop}
 use borrow.Author.Tests.{ltb-true, ltb-false}
 use Rattle.base.proofs.Bytes.{Bytes}
-use Rattle.memory_address.specs.Places.{flashCells, eepromCells}
+use Rattle.node_rules.specs.declared.Mode.the-variants.{Waiting}
 use Rattle.node_rules.specs.declared.Node.{Node}
+use Rattle.node_rules.specs.Record.{withMode, tidied}
 use Rattle.node_rules.specs.Step.{Step}
-use Rattle.node.proofs.can_frame.{signature}
-use Rattle.node.proofs.can_frame.Kinds as kinds
-use Rattle.node.proofs.can_frame.Reads as reads
-use Rattle.recipe.specs.declared.Translated.the-variants.{Frames}
+use Rattle.node_rules.specs.Runs.{State, state, behindFrame}
+use Rattle.node.proofs.Calls.{can-frame-said}
+use Rattle.recipe.specs.declared.Translated.{Translated}
+use Rattle.recipe.specs.declared.Translated.the-variants.{Frames, Refused}
 use Rattle.recipe.specs.Items.{Recipe, Legal, printed}
-use Rattle.recipe.specs.Frames.{framesOf, frameCount}
+use Rattle.recipe.specs.Frames.{framesOf, joined, frameCount}
 use Rattle.recipe.specs.Reading.{recipeOf}
-use Rattle.recipe.specs.Plain.{Memories}
-use Rattle.recipe_translate.proofs.translate.{signature as translate-signature}
-use Rattle.recipe_translate.proofs.translate.Kinds as translate-kinds
-use Rattle.recipe_translate.proofs.translate.Reads as translate-reads
+use Rattle.recipe.specs.Plain.{Memories, plainly}
 use Rattle.recipe_translate.proofs.Translating.{accepts-every-legal, refuses-short-output, accepts-only-legal}
-use Rattle.update_deliver.specs.Delivery.{Delivery, told, behind, followed, delivered}
-use Rattle.update_deliver.specs.Taken.{framesIn}
-use Rattle.update.specs.Updated.{Ready, updated}
-use Rattle.update.proofs.AnswerThree.{answer-three}
+use Rattle.update_rules.specs.Delivery.{told, Delivery, Delivers, behind}
+use Rattle.update_rules.specs.Mirror.{answersOf}
+use Rattle.update_rules.specs.Updated.{Ready, over, Full}
+use Rattle.update_rules.proofs.Deliveries.{deliveredAt, nothing, frame-first}
+use Rattle.update_rules.proofs.DemandThree.{whole-delivery}
+use Rattle.update_deliver.specs.Taken.{firstFrames}
+use Rattle.update.specs.Calls.{Translate, call, CanFrames, none, more}
+use Rattle.update.specs.Whole.{ArrivedWhole}
 use Rattle.update.proofs.Taking.{recipe-taken}
 
--- calls of `can_frame` one after the other, over these frames: each takes the node and the memories that the one before left
-pub data Run : List (List ℕ) → Node → List ℕ → List ℕ → Delivery → Type 1 where
-  done : {n : Node} {flash eeprom : List ℕ} → Run [] n flash eeprom (record { answers = []; node = n; flash = flash; eeprom = eeprom })
-  call : {frames : List (List ℕ)} {rest : Delivery} (κs : Lfts 3) (a : ArgsD signature κs) (r : ResD signature κs)
-      (s : AtExit (endedOf 3 kinds.ps kinds.r) κs) → reads.Post κs a r s
-      → Run frames (r .node) ((s .1 .1 .0) .now) ((s .1 .1 .1 .0) .now) rest
-      → Run ((a .1 .0) .now ∷ frames) (a .0) ((a .1 .1 .0) .now) ((a .1 .1 .1 .0) .now) (behind (told r ∷ []) rest)
+-- calls of `can_frame` one after the other are a delivery
+pub calls-deliver : {frames answers : List (List ℕ)} {before after : State} → CanFrames frames before answers after
+    → Delivers frames before answers after
+calls-deliver (none {s}) = nothing s
+calls-deliver (more {frame} {flash} {eeprom} {n = n} {r = r} {frames = frames} c rest) =
+    frame-first (state n flash eeprom) frame frames
+    ∙ ap (λ (t : Step). behind (told (t .answer) ∷ []) (deliveredAt frames (behindFrame t))) (sym (can-frame-said c))
+    ∙ ap (behind (told r ∷ [])) (calls-deliver rest)
 
--- what a run leaves is what the delivery leaves
-pub run-delivered : {frames : List (List ℕ)} {n : Node} {flash eeprom : List ℕ} {d : Delivery} → Run frames n flash eeprom d
-    → d ≡ delivered frames n flash eeprom
-unfolding delivered
-run-delivered done = refl
-run-delivered (call {frames} κs a r s p rest) =
-    ap (behind (told r ∷ [])) (run-delivered rest) ∙ ap (λ (t : Step). followed t (delivered frames)) p
+-- two deliveries of the same frames from the same state are one
+same-delivery : (frames : List (List ℕ)) (before : State) (xs ys : List (List ℕ)) (a b : State) → Delivers frames before xs a
+    → Delivers frames before ys b → (xs ≡ ys) × (a ≡ b)
+same-delivery frames before xs ys a b p q =
+    let e = sym p ∙ q in
+    (ap (λ (d : Delivery). d .answers) e, ap (λ (d : Delivery). state (d .node) (d .flash) (d .eeprom)) e)
 
--- a run over the frames of a legal recipe
-pub run-answers : (r : Recipe) (n : Node) (m : Memories) (d : Delivery) → Legal r → Ready n r → length (m .flash) ≡ flashCells
-    → length (m .eeprom) ≡ eepromCells → Run (framesOf r) n (m .flash) (m .eeprom) d → d ≡ updated r n m
-run-answers r n m d legal ready l k run = run-delivered run ∙ answer-three r n m legal ready l k
+-- calls over the frames of a legal recipe
+pub demand-three-frames : (q : Recipe) (n : Node) (m : Memories) (answers : List (List ℕ)) (after : State) → Legal q → Ready n q → Full m
+    → CanFrames (framesOf q) (over n m) answers after → ArrivedWhole q n m answers after
+demand-three-frames q n m answers after legal ready full calls =
+    same-delivery (framesOf q) (over n m) answers (answersOf q) after (over (withMode (tidied n) Waiting) (plainly q m))
+    (calls-deliver calls) (whole-delivery q n m legal ready full)
 
-module _ (κs : Lfts 2) (a : ArgsD translate-signature κs) (r : ResD translate-signature κs)
-    (s : AtExit (endedOf 2 translate-kinds.ps translate-kinds.r) κs) (p : translate-reads.Post κs a r s) where
-  -- a call of the translator on a legal recipe's bytes, with room, and then a run over the frames in its output
-  pub answer-three-calls : (q : Recipe) → Legal q → (a .0) .now ≡ printed q → 12 * frameCount q ≤ length ((a .1 .0) .now)
-      → (n : Node) (m : Memories) (d : Delivery) → Ready n q → length (m .flash) ≡ flashCells → length (m .eeprom) ≡ eepromCells
-      → Run (framesIn (frameCount q) ((s .1 .0) .now)) n (m .flash) (m .eeprom) d
-      → (r ≡ Frames (frameCount q)) × (d ≡ updated q n m)
-  answer-three-calls q legal e room n m d ready l k run =
-      let t = accepts-every-legal κs a r s p q legal e room in
-      let same : framesIn (frameCount q) ((s .1 .0) .now) ≡ framesOf q = ap (framesIn (frameCount q)) (t .1) ∙ recipe-taken q _ legal in (
-        t .0,
-        run-delivered run
-            ∙ ap (λ (fs : List (List ℕ)). delivered fs n (m .flash) (m .eeprom)) same
-            ∙ answer-three q n m legal ready l k,
+-- ---- what the translator's contract says, by the parts of a call
+
+translate-legal : {input output output′ : List ℕ} {t : Translated} → Translate input output t output′ → (q : Recipe) → Legal q
+    → input ≡ printed q → 12 * frameCount q ≤ length output
+    → (t ≡ Frames (frameCount q)) × (output′ ≡ joined (framesOf q) ++ drop (12 * frameCount q) output)
+translate-legal (call κs a r s p) q legal e room = accepts-every-legal κs a r s p q legal e room
+
+translate-short : {input output output′ : List ℕ} {t : Translated} → Translate input output t output′ → (q : Recipe) → Legal q
+    → input ≡ printed q → length output < 12 * frameCount q → t ≡ Refused 26 0
+translate-short (call κs a r s p) q legal e short = refuses-short-output κs a r s p q legal e short .0
+
+translate-only : {input output output′ : List ℕ} {t : Translated} → Translate input output t output′ → Bytes input → (count : ℕ)
+    → t ≡ Frames count → Legal (recipeOf input) × (input ≡ printed (recipeOf input)) × (count ≡ frameCount (recipeOf input))
+translate-only (call κs a r s p) bytes count e =
+    let o = accepts-only-legal κs a r s p bytes count e in
+    (o .0, o .1, o .3)
+
+module _ {input output output′ : List ℕ} {t : Translated} (translates : Translate input output t output′) where
+  -- a call of the translator on a legal recipe's bytes, with room, and then calls over the frames in its output
+  pub demand-three-calls : (q : Recipe) → Legal q → input ≡ printed q → 12 * frameCount q ≤ length output
+      → (n : Node) (m : Memories) (answers : List (List ℕ)) (after : State) → Ready n q → Full m
+      → CanFrames (firstFrames (frameCount q) output′) (over n m) answers after
+      → (t ≡ Frames (frameCount q)) × ArrivedWhole q n m answers after
+  demand-three-calls q legal e room n m answers after ready full calls =
+      let said = translate-legal translates q legal e room in
+      let same : firstFrames (frameCount q) output′ ≡ framesOf q =
+      ap (firstFrames (frameCount q)) (said .1) ∙ recipe-taken q (drop (12 * frameCount q) output) legal in (
+        said .0,
+        demand-three-frames q n m answers after legal ready full
+            (subst (λ (fs : List (List ℕ)). CanFrames fs (over n m) answers after) same calls),
       )
 
   -- a translator's answer with frames had room for them
-  had-room : (q : Recipe) → Legal q → (a .0) .now ≡ printed q → (count : ℕ) → r ≡ Frames count → 12 * frameCount q ≤ length ((a .1 .0) .now)
-  had-room q legal e count f = go (ltb (length ((a .1 .0) .now)) (12 * frameCount q)) refl
+  had-room : (q : Recipe) → Legal q → input ≡ printed q → (count : ℕ) → t ≡ Frames count → 12 * frameCount q ≤ length output
+  had-room q legal e count f = go (ltb (length output) (12 * frameCount q)) refl
     where
-      go : (b : Bool) → ltb (length ((a .1 .0) .now)) (12 * frameCount q) ≡ b → 12 * frameCount q ≤ length ((a .1 .0) .now)
+      go : (b : Bool) → ltb (length output) (12 * frameCount q) ≡ b → 12 * frameCount q ≤ length output
       go true h =
-          let short = refuses-short-output κs a r s p q legal e (ltb-true _ _ h) .0 in
+          let short = translate-short translates q legal e (ltb-true _ _ h) in
           let z : _≡_ {A = ℕ} 0 1 = cc in
           absurd (omega arith)
       go false h = ltb-false _ _ h
 
-  -- whatever bytes the translator accepted, and then a run over the frames in its output
-  pub answer-three-accepted : Bytes ((a .0) .now) → (count : ℕ) → r ≡ Frames count
-      → (n : Node) (m : Memories) (d : Delivery) → Ready n (recipeOf ((a .0) .now)) → length (m .flash) ≡ flashCells
-      → length (m .eeprom) ≡ eepromCells → Run (framesIn count ((s .1 .0) .now)) n (m .flash) (m .eeprom) d
-      → Legal (recipeOf ((a .0) .now)) × ((a .0) .now ≡ printed (recipeOf ((a .0) .now))) × (d ≡ updated (recipeOf ((a .0) .now)) n m)
-  answer-three-accepted bytes count f n m d ready l k run =
-      let o = accepts-only-legal κs a r s p bytes count f in
-      let q = recipeOf ((a .0) .now) in
+  -- whatever bytes the translator accepted, and then calls over the frames in its output
+  pub demand-three-accepted : Bytes input → (count : ℕ) → t ≡ Frames count
+      → (n : Node) (m : Memories) (answers : List (List ℕ)) (after : State) → Ready n (recipeOf input) → Full m
+      → CanFrames (firstFrames count output′) (over n m) answers after
+      → Legal (recipeOf input) × (input ≡ printed (recipeOf input)) × ArrivedWhole (recipeOf input) n m answers after
+  demand-three-accepted bytes count f n m answers after ready full calls =
+      let o = translate-only translates bytes count f in
+      let q = recipeOf input in
       let room = had-room q (o .0) (o .1) count f in (
         o .0,
         o .1,
-        answer-three-calls q (o .0) (o .1) room n m d ready l k
-            (subst (λ (c : ℕ). Run (framesIn c ((s .1 .0) .now)) n (m .flash) (m .eeprom) d) (o .3) run) .1,
+        demand-three-calls q (o .0) (o .1) room n m answers after ready full
+            (subst (λ (c : ℕ). CanFrames (firstFrames c output′) (over n m) answers after) (o .2) calls) .1,
       )

@@ -1,12 +1,4 @@
-pub mod Rows
-pub mod Items
-pub mod AnswerThree
 pub mod Taking
 pub mod Calls
-pub mod Mirroring
-pub mod Corollaries
 pub mod Whole
-pub mod Keeping
-pub mod Serially
 pub mod SerialCalls
-pub mod Witnesses

@@ -1,3 +1,2 @@
-pub mod Mirror
-pub mod Updated
-pub mod Serial
+pub mod Calls
+pub mod Whole

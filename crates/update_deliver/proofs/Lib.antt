@@ -1,4 +1,4 @@
-pub mod Told
 pub mod Turns
 pub mod Outcome
+pub mod Calls
 pub mod Tight

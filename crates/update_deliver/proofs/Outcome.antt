@@ -17,8 +17,8 @@ use Rattle.recipe.specs.declared.Translated.{Translated}
 use Rattle.recipe.specs.declared.Translated.the-variants.{Frames, Refused}
 use Rattle.recipe.specs.Frames.{framesOf, joined}
 use Rattle.recipe.specs.Reading.{recipeOf}
-use Rattle.recipe.specs.Translation.{lastly, checked, translated, outputAfter, translatedOutput}
-use Rattle.update_deliver.specs.Delivering.{handed, handedOver, roomFor, left, leftBy, deliverBy, deliverStep}
+use Rattle.recipe.specs.Translation.{unlessShort, checked, translated, outputAfter, translatedOutput}
+use Rattle.update_deliver.specs.Delivering.{handed, handedOver, roomFor, left, afterHandOver, deliverBy, deliverStep}
 
 -- the room lies within the frames, and within the answers at 14 bytes a frame
 pub room-within : (f a : ℕ) → (roomFor f a ≤ f) × (roomFor f a ≤ 12 * (a / 14))
@@ -37,7 +37,7 @@ accepted-fits input room count = go (checked input)
     short k true e h = let z : _≡_ {A = ℕ} 0 1 = cc in absurd (omega arith)
     short k false e h = let same : k ≡ count = cc in let l = ltb-false room (12 * k) e in omega arith
 
-    go : (t : Translated) → lastly t room ≡ Frames count → 12 * count ≤ room
+    go : (t : Translated) → unlessShort t room ≡ Frames count → 12 * count ≤ room
     go (Refused number place) h = let z : _≡_ {A = ℕ} 0 1 = cc in absurd (omega arith)
     go (Frames k) h = short k (ltb room (12 * k)) refl h
 
@@ -52,7 +52,8 @@ module _ (input : List ℕ) (n : Node) (flash eeprom frames answers : List ℕ) 
       ∙ ap (λ (x : Translated). outputAfter x input (take room frames) ++ drop room frames) e
       ∙ go t e
     where
-      go : (x : Translated) → translated input room ≡ x → outputAfter x input (take room frames) ++ drop room frames ≡ outputAfter x input frames
+      go : (x : Translated) → translated input room ≡ x → outputAfter x input
+          (take room frames) ++ drop room frames ≡ outputAfter x input frames
       go (Refused number place) q = take-append-drop room frames
       go (Frames count) q =
           let written = joined (framesOf (recipeOf input)) in
@@ -108,6 +109,6 @@ module _ (input : List ℕ) (n : Node) (flash eeprom frames answers : List ℕ) 
       step-done n′ flash′ eeprom′ answers′ k =
           let same : output ++ drop (room - 0) frames ≡ outputAfter (Frames count) input frames =
           frames-are ∙ ap (λ (x : Translated). outputAfter x input frames) h in
-          ap (leftBy count (output ++ drop (room - 0) frames)) k
-          ∙ ap (λ (fs : List ℕ). leftBy count fs (handedOver count fs n flash eeprom answers)) same
+          ap (afterHandOver count (output ++ drop (room - 0) frames)) k
+          ∙ ap (λ (fs : List ℕ). afterHandOver count fs (handedOver count fs n flash eeprom answers)) same
           ∙ ap (λ (x : Translated). deliverBy x input n flash eeprom frames answers) (sym (is-step ∙ h))

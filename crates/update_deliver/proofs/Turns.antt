@@ -12,10 +12,12 @@ use Rattle.base.specs.Parts.{part, patch}
 use Rattle.node_rules.specs.declared.Node.{Node}
 use Rattle.node_rules.specs.declared.Answer.{Answer}
 use Rattle.node_rules.specs.Step.{Step, after, canStep}
+use Rattle.node_rules.specs.Runs.{state}
 use Rattle.recipe.specs.Frames.{joined}
 use Rattle.recipe.proofs.Framing.{joined-append}
-use Rattle.update_deliver.specs.Delivery.{Delivery, told, behind, followed, delivered}
-use Rattle.update_deliver.specs.Taken.{framesIn}
+use Rattle.update_rules.specs.Delivery.{Delivery, told, behind, delivered}
+use Rattle.update_rules.proofs.Deliveries.{frame-first}
+use Rattle.update_deliver.specs.Taken.{firstFrames}
 use Rattle.update_deliver.specs.Delivering.{handed, handedBy, handedOver}
 
 -- a piece put behind what is written
@@ -31,7 +33,8 @@ module _ (frames : List ℕ) (count : ℕ) (flash₀ eeprom₀ answers₀ : List
   -- after some turns: `left` frames, from byte `at` on, are still to be handed over
   pub record Handing (flash eeprom answers : List ℕ) (n : Node) (at to left : ℕ) : Type 0 where
     pub done : List (List ℕ)
-    pub goesOn : behind done (delivered (framesIn left (drop at frames)) n flash eeprom) ≡ delivered (framesIn count frames) n₀ flash₀ eeprom₀
+    pub goesOn : behind done (delivered (firstFrames left (drop at frames)) n flash eeprom)
+        ≡ delivered (firstFrames count frames) n₀ flash₀ eeprom₀
     pub written : answers ≡ joined done ++ drop to answers₀
     pub long : length (joined done) ≡ to
     pub here : at + 12 * left ≡ 12 * count
@@ -59,25 +62,27 @@ module _ (frames : List ℕ) (count : ℕ) (flash₀ eeprom₀ answers₀ : List
         ap length (h .written) ∙ simp (length-append, length-drop) (omega (arith, h .long, h .there))
 
     -- the next frame, and the others
-    next-frame : 0 < left → framesIn left (drop at frames) ≡ part frames at 12 ∷ framesIn (left - 1) (drop (at + 12) frames)
-    unfolding framesIn
+    next-frame : 0 < left → firstFrames left (drop at frames) ≡ part frames at 12 ∷ firstFrames (left - 1) (drop (at + 12) frames)
+    unfolding firstFrames
     next-frame some = go left some
       where
-        go : (k : ℕ) → 0 < k → framesIn k (drop at frames) ≡ part frames at 12 ∷ framesIn (k - 1) (drop (at + 12) frames)
+        go : (k : ℕ) → 0 < k → firstFrames k (drop at frames) ≡ part frames at 12 ∷ firstFrames (k - 1) (drop (at + 12) frames)
         go zero l = absurd (omega arith)
         go (suc k) l =
-            rw sub-one (ap (λ (o : List ℕ). part frames at 12 ∷ framesIn k o) (drop-drop 12 at frames))
+            rw sub-one (ap (λ (o : List ℕ). part frames at 12 ∷ firstFrames k o) (drop-drop 12 at frames))
 
     -- a turn: the node takes the frame, and what is told of its answer is put behind what was told
     pub handing-next : 0 < left → (a : Answer) (flash′ eeprom′ answers′ t : List ℕ)
-        → after a flash′ eeprom′ ≡ canStep n (part frames at 12) flash eeprom → length flash′ ≡ length flash → length eeprom′ ≡ length eeprom
+        → after a flash′ eeprom′ ≡ canStep n (part frames at 12) flash eeprom
+        → length flash′ ≡ length flash → length eeprom′ ≡ length eeprom
         → t ≡ told a → length t ≡ 14 → answers′ ≡ patch answers to t
         → Handing flash′ eeprom′ answers′ (a .node) (at + 12) (to + 14) (left - 1)
-    unfolding delivered joined
+    unfolding joined
     handing-next some a flash′ eeprom′ answers′ t e lf le q l p =
         let put : joined (h .done ++ (t ∷ [])) ≡ joined (h .done) ++ t =
         joined-append (h .done) (t ∷ []) ∙ ap (λ (x : List ℕ). joined (h .done) ++ x) (append-nil t) in
-        let rest = delivered (framesIn (left - 1) (drop (at + 12) frames)) in
+        let others = firstFrames (left - 1) (drop (at + 12) frames) in
+        let rest = delivered others in
         let more = rest (a .node) flash′ eeprom′ in
         record {
           done = h .done ++ (t ∷ []);
@@ -85,7 +90,8 @@ module _ (frames : List ℕ) (count : ℕ) (flash₀ eeprom₀ answers₀ : List
               ap (λ (xs : List (List ℕ)). record { answers = xs; node = more .node; flash = more .flash; eeprom = more .eeprom })
               (append-assoc (h .done) (t ∷ []) (more .answers))
               ∙ ap (λ (x : List ℕ). behind (h .done) (behind (x ∷ []) more)) q
-              ∙ ap (λ (s : Step). behind (h .done) (followed s rest)) e
+              ∙ ap (λ (s : Step). behind (h .done) (behind (told (s .answer) ∷ []) (rest (s .answer .node) (s .flash) (s .eeprom)))) e
+              ∙ ap (behind (h .done)) (sym (frame-first (state n flash eeprom) (part frames at 12) others))
               ∙ ap (λ (fs : List (List ℕ)). behind (h .done) (delivered fs n flash eeprom)) (sym (next-frame some))
               ∙ h .goesOn;
           written =
@@ -102,10 +108,10 @@ module _ (frames : List ℕ) (count : ℕ) (flash₀ eeprom₀ answers₀ : List
 
     -- at the end all are handed over
     pub handing-end : left ≡ 0 → handed n flash eeprom answers ≡ handedOver count frames n₀ flash₀ eeprom₀ answers₀
-    unfolding handedOver framesIn delivered
+    unfolding handedOver firstFrames delivered
     handing-end z =
         let all : to ≡ 14 * count = omega (arith, h .there) in
         ap (handed n flash eeprom)
         (h .written ∙ ap₂ (λ (xs : List (List ℕ)) (k : ℕ). joined xs ++ drop k answers₀) (sym (append-nil (h .done))) all)
         ∙ ap (λ (d : Delivery). handedBy d count answers₀)
-        (ap (λ (k : ℕ). behind (h .done) (delivered (framesIn k (drop at frames)) n flash eeprom)) (sym z) ∙ h .goesOn)
+        (ap (λ (k : ℕ). behind (h .done) (delivered (firstFrames k (drop at frames)) n flash eeprom)) (sym z) ∙ h .goesOn)

@@ -10,8 +10,8 @@ use Rattle.recipe.specs.declared.Translated.the-variants.{Frames, Refused}
 use Rattle.recipe.specs.Frames.{joined}
 use Rattle.recipe.specs.Translation.{translated, outputAfter}
 use Rattle.update_deliver.specs.declared.Delivered.{Delivered}
-use Rattle.update_deliver.specs.Delivery.{Delivery, delivered}
-use Rattle.update_deliver.specs.Taken.{framesIn}
+use Rattle.update_rules.specs.Delivery.{Delivery, delivered}
+use Rattle.update_deliver.specs.Taken.{firstFrames}
 
 -- the node, the memories and the answers after frames were handed over
 pub record Handed : Type 0 where
@@ -29,7 +29,7 @@ handedBy d count answers = handed (d .node) (d .flash) (d .eeprom) (joined (d .a
 
 -- the first `count` frames of a buffer handed over
 unfoldable pub handedOver : ℕ → List ℕ → Node → List ℕ → List ℕ → List ℕ → Handed
-handedOver count frames n flash eeprom answers = handedBy (delivered (framesIn count frames) n flash eeprom) count answers
+handedOver count frames n flash eeprom answers = handedBy (delivered (firstFrames count frames) n flash eeprom) count answers
 
 -- the room for frames: no more than are lent, and no more than the answers have room for, 14 bytes a frame
 unfoldable pub roomFor : ℕ → ℕ → ℕ
@@ -47,8 +47,8 @@ abbrev pub left : Delivered → List ℕ → List ℕ → List ℕ → List ℕ 
 left r flash eeprom frames answers = record { result = r; flash = flash; eeprom = eeprom; frames = frames; answers = answers }
 
 -- after the hand-over of `count` frames, which stand in `frames`
-abbrev pub leftBy : ℕ → List ℕ → Handed → Left
-leftBy count frames h =
+abbrev pub afterHandOver : ℕ → List ℕ → Handed → Left
+afterHandOver count frames h =
     left (record { translated = Frames count; node = h .node; count = count }) (h .flash) (h .eeprom) frames (h .answers)
 
 -- a refused recipe touches nothing; else the frames are written, and handed over
@@ -56,7 +56,7 @@ abbrev pub deliverBy : Translated → List ℕ → Node → List ℕ → List �
 deliverBy (Refused number place) recipe n flash eeprom frames answers =
     left (record { translated = Refused number place; node = n; count = 0 }) flash eeprom frames answers
 deliverBy (Frames count) recipe n flash eeprom frames answers =
-    leftBy count (outputAfter (Frames count) recipe frames)
+    afterHandOver count (outputAfter (Frames count) recipe frames)
     (handedOver count (outputAfter (Frames count) recipe frames) n flash eeprom answers)
 
 unfoldable pub deliverStep : List ℕ → Node → List ℕ → List ℕ → List ℕ → List ℕ → Left

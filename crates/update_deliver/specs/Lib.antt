@@ -1,3 +1,2 @@
-pub mod Delivery
 pub mod Taken
 pub mod Delivering

@@ -4,6 +4,6 @@ use mathlib.Core.List.{List, [], _∷_}
 use lib.ListN.{take, drop}
 
 -- the first so many frames of an output
-unfoldable pub framesIn : ℕ → List ℕ → List (List ℕ)
-framesIn zero output = []
-framesIn (suc count) output = take 12 output ∷ framesIn count (drop 12 output)
+unfoldable pub firstFrames : ℕ → List ℕ → List (List ℕ)
+firstFrames zero output = []
+firstFrames (suc count) output = take 12 output ∷ firstFrames count (drop 12 output)

@@ -3,7 +3,7 @@ ghost use mathlib.Core.Path.{_≡_};
 ghost use Prim.Native.Nat.{_+_, _*_, _≤_};
 ghost use lib.ListN.{length};
 ghost use Rattle.base.specs.Parts.{patch};
-ghost use Rattle.update_deliver.specs.Delivery.{told};
+ghost use Rattle.update_rules.specs.Delivery.{told};
 ghost use Rattle.update_deliver.specs.Delivering.{handed, handedOver};
 use node_rules::Answer;
 use node_rules::Node;

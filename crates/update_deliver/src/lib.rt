@@ -1,12 +1,12 @@
-// A recipe delivered to a node: it is translated, and its frames are handed over one by one. What the node then holds is answer three, in
+// A recipe delivered to a node: it is translated, and its frames are handed over one by one. What the node then holds is demand 3, in
 // crate update.
 mod handing;
 
 ghost use mathlib.Core.Path.{_≡_};
 ghost use lib.ListN.{length};
 ghost use Rattle.update_deliver.specs.Delivering.{roomFor, left, deliverStep};
-use recipe::Translated;
 use node_rules::Node;
+use recipe::Translated;
 
 // What a delivery answers: the translator's answer, the node afterwards, and how many answers were told.
 pub struct Delivered {

@@ -40,7 +40,11 @@ part-erase-cells-start c = search needs
 part-erase-cells-end : tie.Need-part-erase-cells-end
 part-erase-cells-end c =
     let k = c .before in
-    omega (arith, flash-within (k .before .before .before .before .args .at .0) 0x03 (rw (k .before .legal-flash .ensures) at (k .if2 .taken)))
+    omega (
+      arith,
+      flash-within (k .before .before .before .before .args .at .0) 0x03 (rw (k .before .legal-flash .ensures) at
+          (k .if2 .taken)),
+    )
 
 erase-cells-requires : tie.Need-erase-cells-requires
 erase-cells-requires c κs = search needs

@@ -29,7 +29,11 @@ legal-eeprom-requires c κs = search needs
 sub-a : tie.Need-sub-a
 sub-a c =
     let k = c .before in
-    omega (arith, eeprom-within (k .before .before .before .before .args .place .0) 0x02 (rw (k .before .legal-eeprom .ensures) at (k .if2 .taken)))
+    omega (
+      arith,
+      eeprom-within (k .before .before .before .before .args .place .0) 0x02 (rw (k .before .legal-eeprom .ensures) at
+          (k .if2 .taken)),
+    )
 
 cast-a : tie.Need-cast-a
 cast-a c = search needs
@@ -46,7 +50,11 @@ part-write-eeprom-cells-start c = search needs
 part-write-eeprom-cells-end : tie.Need-part-write-eeprom-cells-end
 part-write-eeprom-cells-end c =
     let k = c .before in
-    omega (arith, eeprom-within (k .before .before .before .before .args .place .0) 0x02 (rw (k .before .legal-eeprom .ensures) at (k .if2 .taken)))
+    omega (
+      arith,
+      eeprom-within (k .before .before .before .before .args .place .0) 0x02 (rw (k .before .legal-eeprom .ensures) at
+          (k .if2 .taken)),
+    )
 
 slice-aggregate-write-eeprom-cells : tie.Need-slice-aggregate-write-eeprom-cells
 slice-aggregate-write-eeprom-cells c = search needs

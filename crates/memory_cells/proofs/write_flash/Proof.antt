@@ -40,7 +40,11 @@ part-write-flash-cells-start c = search needs
 part-write-flash-cells-end : tie.Need-part-write-flash-cells-end
 part-write-flash-cells-end c =
     let k = c .before in
-    omega (arith, flash-within (k .before .before .before .before .args .at .0) 0x02 (rw (k .before .legal-flash .ensures) at (k .if2 .taken)))
+    omega (
+      arith,
+      flash-within (k .before .before .before .before .args .at .0) 0x02 (rw (k .before .legal-flash .ensures) at
+          (k .if2 .taken)),
+    )
 
 slice-aggregate-write-flash-cells : tie.Need-slice-aggregate-write-flash-cells
 slice-aggregate-write-flash-cells c = search needs

@@ -64,7 +64,8 @@ part-result-start c = search needs
 part-result-end : tie.Need-part-result-end
 part-result-end c =
     let k = c .before .before in
-    let e = sym (k .before .before .before .before .before .rule .ensures) ∙ k .before .before .before .cells .given .1 ∙ ap Legal (k .cells2 .given .1) in
+    let e = sym (k .before .before .before .before .before .rule .ensures) ∙ k .before .before .before .cells .given .1 ∙ ap Legal
+    (k .cells2 .given .1) in
     omega (arith, lies (k .before .before .before .before .before .before .before .before .before .before .args .at) _ e)
 
 enum-known-cells-3 : tie.Need-enum-known-cells-3
@@ -73,7 +74,8 @@ enum-known-cells-3 c = search needs
 sub-a : tie.Need-sub-a
 sub-a c =
     let k = c .before .before in
-    let e = sym (k .before .before .before .before .before .rule .ensures) ∙ k .before .before .before .cells .given .1 ∙ ap Legal (k .cells3 .given .1) in
+    let e = sym (k .before .before .before .before .before .rule .ensures) ∙ k .before .before .before .cells .given .1 ∙ ap Legal
+    (k .cells3 .given .1) in
     omega (arith, lies (k .before .before .before .before .before .before .before .before .before .before .args .at) _ e)
 
 cast-a-2 : tie.Need-cast-a-2
@@ -91,7 +93,8 @@ part-result-start-2 c = search needs
 part-result-end-2 : tie.Need-part-result-end-2
 part-result-end-2 c =
     let k = c .before .before in
-    let e = sym (k .before .before .before .before .before .rule .ensures) ∙ k .before .before .before .cells .given .1 ∙ ap Legal (k .cells3 .given .1) in
+    let e = sym (k .before .before .before .before .before .rule .ensures) ∙ k .before .before .before .cells .given .1 ∙ ap Legal
+    (k .cells3 .given .1) in
     omega (arith, lies (k .before .before .before .before .before .before .before .before .before .before .args .at) _ e)
 
 enum-told : tie.Need-enum-told
@@ -105,18 +108,24 @@ returns-3 c =
     let k = c .before .before .before in
     let args = k .before .before .before .before .before .before .before .before .before .before .args in
     let f = k .cells2 .given .0 .0 .0 in
-    let q = sym (k .before .before .before .before .before .rule .ensures) ∙ k .before .before .before .cells .given .1 ∙ ap Legal (k .cells2 .given .1) in
+    let q = sym (k .before .before .before .before .before .rule .ensures) ∙ k .before .before .before .cells .given .1 ∙ ap Legal
+    (k .cells2 .given .1) in
     ap (λ (n : ℕ). take n (drop f (args .flash .now))) (add-sub-cancel-left f 8)
-    ∙ shown-is (args .flash .now) (args .eeprom .now) (args .at) _ (k .before .before .before .before .before .before .before .if1 .left) (k .before .before .before .before .before .before .if2 .left) q
+    ∙ shown-is (args .flash .now) (args .eeprom .now) (args .at) _
+    (k .before .before .before .before .before .before .before .if1 .left)
+    (k .before .before .before .before .before .before .if2 .left) q
 
 returns-4 : tie.Need-returns-4
 returns-4 c =
     let k = c .before .before .before in
     let args = k .before .before .before .before .before .before .before .before .before .before .args in
     let e = k .cells3 .given .0 .0 .0 - 0xF00000 in
-    let q = sym (k .before .before .before .before .before .rule .ensures) ∙ k .before .before .before .cells .given .1 ∙ ap Legal (k .cells3 .given .1) in
+    let q = sym (k .before .before .before .before .before .rule .ensures) ∙ k .before .before .before .cells .given .1 ∙ ap Legal
+    (k .cells3 .given .1) in
     ap (λ (n : ℕ). take n (drop e (args .eeprom .now))) (add-sub-cancel-left e 8)
-    ∙ shown-is (args .flash .now) (args .eeprom .now) (args .at) _ (k .before .before .before .before .before .before .before .if1 .left) (k .before .before .before .before .before .before .if2 .left) q
+    ∙ shown-is (args .flash .now) (args .eeprom .now) (args .at) _
+    (k .before .before .before .before .before .before .before .if1 .left)
+    (k .before .before .before .before .before .before .if2 .left) q
 
 returns-5 : tie.Need-returns-5
 returns-5 c =

@@ -18,7 +18,8 @@ tidied-here c =
     let r = c .before .before .tidy-receiver .result in
     let e = c .before .before .tidy-receiver .ensures in
     ⊎-elim
-    (λ x. x .2 ∙ x .1 .ensures ∙ lost-tidied n r e (sym (c .before .is-tidy .ensures) ∙ not-true (c .before .is-tidy .result) (x .0 .taken)))
+    (λ x. x .2 ∙ x .1 .ensures ∙ lost-tidied n r e (sym (c .before .is-tidy .ensures) ∙ not-true (c .before .is-tidy .result)
+    (x .0 .taken)))
     (λ x. x .1 ∙ kept-tidied n r e (sym (c .before .is-tidy .ensures) ∙ not-false (c .before .is-tidy .result) (x .0 .left)))
     (c .if1 .came)
 
@@ -65,8 +66,26 @@ same-length-2 : tie.Need-same-length-2
 same-length-2 c = search needs
 
 returns : tie.Need-returns
-returns c = stepped (c .before .before .before .before .before .before .before .before .before .before .before .before .before .before .before .before .before .before .before .before .before .before .before .args .node) (c .before .before .before .before .before .before .before .before .before .before .before .before .before .before .before .before .before .before .before .before .before .before .before .args .frame .now) (c .before .before .before .before .before .before .before .before .before .before .before .before .before .before .before .before .before .before .before .before .before .before .before .args .flash .now) (c .before .before .before .before .before .before .before .before .before .before .before .before .before .before .before .before .before .before .before .before .before .before .before .args .eeprom .now) (c .before .before .before .before .before .before .before .before .before .before .before .before .before .before .before .before .before .if1 .n) (c .before .before .before .before .before .before .before .before .before .before .before .before .before .before .full .result) (c .before .before .before .before .before .before .before .before .before .before .before .before .before .decide .result) _ _ (c .before .before .before .replies .result) (c .before .before .before .before .before .before .before .before .before .before .before .before .before .before .before .before .before .if1 .n)
-    (tidied-here (c .before .before .before .before .before .before .before .before .before .before .before .before .before .before .before .before .before)) (c .before .before .before .before .before .before .before .before .before .before .before .before .before .before .full .ensures) (c .before .before .before .before .before .before .before .before .before .before .before .before .before .decide .ensures) (c .before .before .before .before .before .before .before .before .before .before .change .ensures .0) (c .before .before .before .before .before .before .before .before .before .before .change .ensures .1) (c .before .before .before .replies .ensures)
+returns c = stepped (c .before .before .before .before .before .before .before .before .before .before .before .before .before .before
+    .before .before .before .before .before .before .before .before .before .args .node)
+    (c .before .before .before .before .before .before .before .before .before .before .before .before .before .before .before .before
+    .before .before .before .before .before .before .before .args .frame .now)
+    (c .before .before .before .before .before .before .before .before .before .before .before .before .before .before .before .before
+    .before .before .before .before .before .before .before .args .flash .now)
+    (c .before .before .before .before .before .before .before .before .before .before .before .before .before .before .before .before
+    .before .before .before .before .before .before .before .args .eeprom .now)
+    (c .before .before .before .before .before .before .before .before .before .before .before .before .before .before .before .before
+    .before .if1 .n) (c .before .before .before .before .before .before .before .before .before .before .before .before .before .before
+    .full .result) (c .before .before .before .before .before .before .before .before .before .before .before .before .before .decide
+    .result) _ _ (c .before .before .before .replies .result)
+    (c .before .before .before .before .before .before .before .before .before .before .before .before .before .before .before .before
+    .before .if1 .n)
+    (tidied-here (c .before .before .before .before .before .before .before .before .before .before .before .before .before .before
+    .before .before .before)) (c .before .before .before .before .before .before .before .before .before .before .before .before
+    .before .before .full .ensures) (c .before .before .before .before .before .before .before .before .before .before .before
+    .before .before .decide .ensures) (c .before .before .before .before .before .before .before .before .before .before .change
+    .ensures .0) (c .before .before .before .before .before .before .before .before .before .before .change .ensures .1)
+    (c .before .before .before .replies .ensures)
     (simp (c .enum-told .given .1))
 
 same-length-3 : tie.Need-same-length-3
@@ -76,8 +95,26 @@ same-length-4 : tie.Need-same-length-4
 same-length-4 c = search needs
 
 returns-2 : tie.Need-returns-2
-returns-2 c = stepped (c .before .before .before .before .before .before .before .before .before .before .before .before .before .before .before .before .before .before .before .before .before .before .before .before .before .args .node) (c .before .before .before .before .before .before .before .before .before .before .before .before .before .before .before .before .before .before .before .before .before .before .before .before .before .args .frame .now) (c .before .before .before .before .before .before .before .before .before .before .before .before .before .before .before .before .before .before .before .before .before .before .before .before .before .args .flash .now) (c .before .before .before .before .before .before .before .before .before .before .before .before .before .before .before .before .before .before .before .before .before .before .before .before .before .args .eeprom .now) (c .before .before .before .before .before .before .before .before .before .before .before .before .before .before .before .before .before .before .before .if1 .n) (c .before .before .before .before .before .before .before .before .before .before .before .before .before .before .before .before .full .result) (c .before .before .before .before .before .before .before .before .before .before .before .before .before .before .before .decide .result) _ _ (c .before .before .before .before .before .replies .result) (c .with-mode2 .result)
-    (tidied-here (c .before .before .before .before .before .before .before .before .before .before .before .before .before .before .before .before .before .before .before)) (c .before .before .before .before .before .before .before .before .before .before .before .before .before .before .before .before .full .ensures) (c .before .before .before .before .before .before .before .before .before .before .before .before .before .before .before .decide .ensures) (c .before .before .before .before .before .before .before .before .before .before .before .before .change .ensures .0) (c .before .before .before .before .before .before .before .before .before .before .before .before .change .ensures .1) (c .before .before .before .before .before .replies .ensures)
+returns-2 c = stepped (c .before .before .before .before .before .before .before .before .before .before .before .before .before .before
+    .before .before .before .before .before .before .before .before .before .before .before .args .node)
+    (c .before .before .before .before .before .before .before .before .before .before .before .before .before .before .before .before
+    .before .before .before .before .before .before .before .before .before .args .frame .now)
+    (c .before .before .before .before .before .before .before .before .before .before .before .before .before .before .before .before
+    .before .before .before .before .before .before .before .before .before .args .flash .now)
+    (c .before .before .before .before .before .before .before .before .before .before .before .before .before .before .before .before
+    .before .before .before .before .before .before .before .before .before .args .eeprom .now)
+    (c .before .before .before .before .before .before .before .before .before .before .before .before .before .before .before .before
+    .before .before .before .if1 .n) (c .before .before .before .before .before .before .before .before .before .before .before .before
+    .before .before .before .before .full .result) (c .before .before .before .before .before .before .before .before .before .before
+    .before .before .before .before .before .decide .result) _ _ (c .before .before .before .before .before .replies .result)
+    (c .with-mode2 .result)
+    (tidied-here (c .before .before .before .before .before .before .before .before .before .before .before .before .before .before
+    .before .before .before .before .before)) (c .before .before .before .before .before .before .before .before .before .before
+    .before .before .before .before .before .before .full .ensures)
+    (c .before .before .before .before .before .before .before .before .before .before .before .before .before .before .before
+    .decide .ensures) (c .before .before .before .before .before .before .before .before .before .before .before .before .change
+    .ensures .0) (c .before .before .before .before .before .before .before .before .before .before .before .before .change .ensures
+    .1) (c .before .before .before .before .before .replies .ensures)
     (simp (c .before .before .next .given .1) (c .with-mode2 .ensures))
 
 same-length-5 : tie.Need-same-length-5
@@ -87,8 +124,25 @@ same-length-6 : tie.Need-same-length-6
 same-length-6 c = search needs
 
 returns-3 : tie.Need-returns-3
-returns-3 c = stepped (c .before .before .before .before .before .before .before .before .before .before .before .before .before .before .before .before .before .before .before .before .before .before .before .before .args .node) (c .before .before .before .before .before .before .before .before .before .before .before .before .before .before .before .before .before .before .before .before .before .before .before .before .args .frame .now) (c .before .before .before .before .before .before .before .before .before .before .before .before .before .before .before .before .before .before .before .before .before .before .before .before .args .flash .now) (c .before .before .before .before .before .before .before .before .before .before .before .before .before .before .before .before .before .before .before .before .before .before .before .before .args .eeprom .now) (c .before .before .before .before .before .before .before .before .before .before .before .before .before .before .before .before .before .before .if1 .n) (c .before .before .before .before .before .before .before .before .before .before .before .before .before .before .before .full .result) (c .before .before .before .before .before .before .before .before .before .before .before .before .before .before .decide .result) _ _ (c .before .before .before .before .replies .result) (c .with-mode3 .result)
-    (tidied-here (c .before .before .before .before .before .before .before .before .before .before .before .before .before .before .before .before .before .before)) (c .before .before .before .before .before .before .before .before .before .before .before .before .before .before .before .full .ensures) (c .before .before .before .before .before .before .before .before .before .before .before .before .before .before .decide .ensures) (c .before .before .before .before .before .before .before .before .before .before .before .change .ensures .0) (c .before .before .before .before .before .before .before .before .before .before .before .change .ensures .1) (c .before .before .before .before .replies .ensures)
+returns-3 c = stepped (c .before .before .before .before .before .before .before .before .before .before .before .before .before .before
+    .before .before .before .before .before .before .before .before .before .before .args .node)
+    (c .before .before .before .before .before .before .before .before .before .before .before .before .before .before .before .before
+    .before .before .before .before .before .before .before .before .args .frame .now)
+    (c .before .before .before .before .before .before .before .before .before .before .before .before .before .before .before .before
+    .before .before .before .before .before .before .before .before .args .flash .now)
+    (c .before .before .before .before .before .before .before .before .before .before .before .before .before .before .before .before
+    .before .before .before .before .before .before .before .before .args .eeprom .now)
+    (c .before .before .before .before .before .before .before .before .before .before .before .before .before .before .before .before
+    .before .before .if1 .n) (c .before .before .before .before .before .before .before .before .before .before .before .before .before
+    .before .before .full .result) (c .before .before .before .before .before .before .before .before .before .before .before .before
+    .before .before .decide .result) _ _ (c .before .before .before .before .replies .result) (c .with-mode3 .result)
+    (tidied-here (c .before .before .before .before .before .before .before .before .before .before .before .before .before .before
+    .before .before .before .before)) (c .before .before .before .before .before .before .before .before .before .before .before
+    .before .before .before .before .full .ensures) (c .before .before .before .before .before .before .before .before .before
+    .before .before .before .before .before .decide .ensures)
+    (c .before .before .before .before .before .before .before .before .before .before .before .change .ensures .0)
+    (c .before .before .before .before .before .before .before .before .before .before .before .change .ensures .1)
+    (c .before .before .before .before .replies .ensures)
     (simp (c .before .enum-told2 .given .1) (c .with-mode3 .ensures))
 
 pub can-frame-spec : {M : Type 1} → statement M

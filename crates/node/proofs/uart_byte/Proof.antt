@@ -22,12 +22,14 @@ tidied-here c =
     let r = c .before .before .tidy-receiver .result in
     let e = c .before .before .tidy-receiver .ensures in
     ⊎-elim
-    (λ x. x .2 ∙ x .1 .ensures ∙ lost-tidied n r e (sym (c .before .is-tidy .ensures) ∙ not-true (c .before .is-tidy .result) (x .0 .taken)))
+    (λ x. x .2 ∙ x .1 .ensures ∙ lost-tidied n r e (sym (c .before .is-tidy .ensures) ∙ not-true (c .before .is-tidy .result)
+    (x .0 .taken)))
     (λ x. x .1 ∙ kept-tidied n r e (sym (c .before .is-tidy .ensures) ∙ not-false (c .before .is-tidy .result) (x .0 .left)))
     (c .if1 .came)
 
 -- what is known behind 1, behind 2 and behind 3
-full-here : (c : tie.Else2) → full (c .before .before .before .before .before .before .before .before .before .args .flash .now) (c .before .before .before .before .before .before .before .before .before .args .eeprom .now) ≡ true
+full-here : (c : tie.Else2) → full (c .before .before .before .before .before .before .before .before .before .args .flash .now)
+    (c .before .before .before .before .before .before .before .before .before .args .eeprom .now) ≡ true
 full-here c = sym (c .before .full .ensures) ∙ not-false (c .before .full .result) (c .if2 .left)
 
 open-here : (c : tie.Else3) → isClosed (c .before .before .before .before .before .before .before .if1 .n .choices .pin) ≡ false
@@ -37,7 +39,9 @@ hears-here : (c : tie.Else4) → isDeaf (c .before .before .before .before .befo
 hears-here c = sym (c .before .is-deaf .ensures) ∙ c .if4 .left
 
 -- a frame is begun, or begins
-begun : (c : tie.Joined5) → (c .before .before .before .before .before .before .before .before .before .before .if1 .n .receiver .count ≡ 0 → ⊥) ⊎ (c .before .before .before .before .before .before .before .before .before .before .before .before .before .before .before .args .byte ≡ 0xAA)
+begun : (c : tie.Joined5) → (c .before .before .before .before .before .before .before .before .before .before .if1 .n .receiver .count ≡
+    0 → ⊥) ⊎ (c .before .before .before .before .before .before .before .before .before .before .before .before .before .before .before
+    .args .byte ≡ 0xAA)
 begun c = ⊎-elim (λ x. inr (x .1 .left)) (λ x. inl (x .left)) (c .if5 .came)
 
 tidy-receiver-requires : tie.Need-tidy-receiver-requires
@@ -62,7 +66,13 @@ same-length-2 : tie.Need-same-length-2
 same-length-2 c = search needs
 
 returns : tie.Need-returns
-returns c = rw (c .silent .ensures) (not-full (c .before .before .before .before .before .before .before .before .before .before .args .node) (c .before .before .before .before .before .if1 .n) (c .before .before .before .before .before .before .before .before .before .before .args .byte) (c .before .before .before .before .before .before .before .before .before .before .args .flash .now) (c .before .before .before .before .before .before .before .before .before .before .args .eeprom .now) (tidied-here (c .before .before .before .before .before)) (sym (c .before .before .full .ensures) ∙ not-true (c .before .before .full .result) (c .before .if2 .taken)))
+returns c = rw (c .silent .ensures) (not-full (c .before .before .before .before .before .before .before .before .before .before .args
+    .node) (c .before .before .before .before .before .if1 .n)
+    (c .before .before .before .before .before .before .before .before .before .before .args .byte)
+    (c .before .before .before .before .before .before .before .before .before .before .args .flash .now)
+    (c .before .before .before .before .before .before .before .before .before .before .args .eeprom .now) (tidied-here
+    (c .before .before .before .before .before)) (sym (c .before .before .full .ensures) ∙ not-true (c .before .before .full .result)
+    (c .before .if2 .taken)))
 
 is-closed-requires : tie.Need-is-closed-requires
 is-closed-requires c κs = search needs
@@ -77,7 +87,13 @@ same-length-4 : tie.Need-same-length-4
 same-length-4 c = search needs
 
 returns-2 : tie.Need-returns-2
-returns-2 c = rw (c .silent2 .ensures) (closed (c .before .before .before .before .before .before .before .before .before .before .before .before .before .args .node) (c .before .before .before .before .before .before .before .before .if1 .n) (c .before .before .before .before .before .before .before .before .before .before .before .before .before .args .byte) (c .before .before .before .before .before .before .before .before .before .before .before .before .before .args .flash .now) (c .before .before .before .before .before .before .before .before .before .before .before .before .before .args .eeprom .now) (tidied-here (c .before .before .before .before .before .before .before .before)) (full-here (c .before .before .before .before)) (sym (c .before .before .is-closed .ensures) ∙ c .before .if3 .taken))
+returns-2 c = rw (c .silent2 .ensures) (closed (c .before .before .before .before .before .before .before .before .before .before .before
+    .before .before .args .node) (c .before .before .before .before .before .before .before .before .if1 .n)
+    (c .before .before .before .before .before .before .before .before .before .before .before .before .before .args .byte)
+    (c .before .before .before .before .before .before .before .before .before .before .before .before .before .args .flash .now)
+    (c .before .before .before .before .before .before .before .before .before .before .before .before .before .args .eeprom .now)
+    (tidied-here (c .before .before .before .before .before .before .before .before)) (full-here (c .before .before .before .before))
+    (sym (c .before .before .is-closed .ensures) ∙ c .before .if3 .taken))
 
 is-deaf-requires : tie.Need-is-deaf-requires
 is-deaf-requires c κs = search needs
@@ -92,7 +108,14 @@ same-length-6 : tie.Need-same-length-6
 same-length-6 c = search needs
 
 returns-3 : tie.Need-returns-3
-returns-3 c = rw (c .silent3 .ensures) (deaf (c .before .before .before .before .before .before .before .before .before .before .before .before .before .before .before .args .node) (c .before .before .before .before .before .before .before .before .before .before .if1 .n) (c .before .before .before .before .before .before .before .before .before .before .before .before .before .before .before .args .byte) (c .before .before .before .before .before .before .before .before .before .before .before .before .before .before .before .args .flash .now) (c .before .before .before .before .before .before .before .before .before .before .before .before .before .before .before .args .eeprom .now) (tidied-here (c .before .before .before .before .before .before .before .before .before .before)) (full-here (c .before .before .before .before .before .before)) (open-here (c .before .before .before)) (sym (c .before .before .is-deaf .ensures) ∙ c .before .if4 .taken))
+returns-3 c = rw (c .silent3 .ensures) (deaf (c .before .before .before .before .before .before .before .before .before .before .before
+    .before .before .before .before .args .node) (c .before .before .before .before .before .before .before .before .before .before .if1
+    .n) (c .before .before .before .before .before .before .before .before .before .before .before .before .before .before .before .args
+    .byte) (c .before .before .before .before .before .before .before .before .before .before .before .before .before .before .before
+    .args .flash .now) (c .before .before .before .before .before .before .before .before .before .before .before .before .before .before
+    .before .args .eeprom .now) (tidied-here (c .before .before .before .before .before .before .before .before .before .before))
+    (full-here (c .before .before .before .before .before .before)) (open-here (c .before .before .before)) (sym
+    (c .before .before .is-deaf .ensures) ∙ c .before .if4 .taken))
 
 silent-requires-4 : tie.Need-silent-requires-4
 silent-requires-4 c κs = search needs
@@ -104,7 +127,17 @@ same-length-8 : tie.Need-same-length-8
 same-length-8 c = search needs
 
 returns-4 : tie.Need-returns-4
-returns-4 c = rw (c .silent4 .ensures) (skipped (c .before .before .before .before .before .before .before .before .before .before .before .before .before .before .before .before .before .args .node) (c .before .before .before .before .before .before .before .before .before .before .before .before .if1 .n) (c .before .before .before .before .before .before .before .before .before .before .before .before .before .before .before .before .before .args .byte) (c .before .before .before .before .before .before .before .before .before .before .before .before .before .before .before .before .before .args .flash .now) (c .before .before .before .before .before .before .before .before .before .before .before .before .before .before .before .before .before .args .eeprom .now) (tidied-here (c .before .before .before .before .before .before .before .before .before .before .before .before)) (full-here (c .before .before .before .before .before .before .before .before)) (open-here (c .before .before .before .before .before)) (hears-here (c .before .before .before)) (c .before .before .if5 .taken) (c .before .if6 .taken))
+returns-4 c = rw (c .silent4 .ensures) (skipped (c .before .before .before .before .before .before .before .before .before .before
+    .before .before .before .before .before .before .before .args .node)
+    (c .before .before .before .before .before .before .before .before .before .before .before .before .if1 .n)
+    (c .before .before .before .before .before .before .before .before .before .before .before .before .before .before .before .before
+    .before .args .byte) (c .before .before .before .before .before .before .before .before .before .before .before .before .before
+    .before .before .before .before .args .flash .now)
+    (c .before .before .before .before .before .before .before .before .before .before .before .before .before .before .before .before
+    .before .args .eeprom .now) (tidied-here (c .before .before .before .before .before .before .before .before .before .before .before
+    .before)) (full-here (c .before .before .before .before .before .before .before .before)) (open-here
+    (c .before .before .before .before .before)) (hears-here (c .before .before .before)) (c .before .before .if5 .taken)
+    (c .before .if6 .taken))
 
 element-write-r : tie.Need-element-write-r
 element-write-r c = search needs
@@ -122,13 +155,27 @@ same-length-10 : tie.Need-same-length-10
 same-length-10 c = search needs
 
 returns-5 : tie.Need-returns-5
-returns-5 c = rw (c .silent5 .ensures) (held (c .before .before .before .before .before .before .before .before .before .before .before .before .before .before .before .before .before .before .args .node) (c .before .before .before .before .before .before .before .before .before .before .before .before .before .if1 .n) (c .before .before .before .before .before .before .before .before .before .before .before .before .before .before .before .before .before .before .args .byte) (c .before .before .before .before .before .before .before .before .before .before .before .before .before .before .before .before .before .before .args .flash .now) (c .before .before .before .before .before .before .before .before .before .before .before .before .before .before .before .before .before .before .args .eeprom .now) (tidied-here (c .before .before .before .before .before .before .before .before .before .before .before .before .before)) (full-here (c .before .before .before .before .before .before .before .before .before)) (open-here (c .before .before .before .before .before .before)) (hears-here (c .before .before .before .before)) (c .before .before .if7 .taken) (begun (c .before .before .before)))
+returns-5 c = rw (c .silent5 .ensures) (held (c .before .before .before .before .before .before .before .before .before .before .before
+    .before .before .before .before .before .before .before .args .node)
+    (c .before .before .before .before .before .before .before .before .before .before .before .before .before .if1 .n)
+    (c .before .before .before .before .before .before .before .before .before .before .before .before .before .before .before .before
+    .before .before .args .byte) (c .before .before .before .before .before .before .before .before .before .before .before .before
+    .before .before .before .before .before .before .args .flash .now)
+    (c .before .before .before .before .before .before .before .before .before .before .before .before .before .before .before .before
+    .before .before .args .eeprom .now) (tidied-here (c .before .before .before .before .before .before .before .before .before .before
+    .before .before .before)) (full-here (c .before .before .before .before .before .before .before .before .before)) (open-here
+    (c .before .before .before .before .before .before)) (hears-here (c .before .before .before .before))
+    (c .before .before .if7 .taken) (begun (c .before .before .before)))
 
 array-write-whole : tie.Need-array-write-whole
 array-write-whole c = search needs
 
 slice-aggregate-unwrap : tie.Need-slice-aggregate-unwrap
-slice-aggregate-unwrap c = simp length-set (sym (room-of (c .before .before .before .before .before .before .before .before .before .before .before .before .before .before .before .before .before .before .args .node) (c .before .before .before .before .before .before .before .before .before .before .before .before .before .if1 .n) (tidied-here (c .before .before .before .before .before .before .before .before .before .before .before .before .before))))
+slice-aggregate-unwrap c = simp length-set (sym (room-of
+    (c .before .before .before .before .before .before .before .before .before .before .before .before .before .before .before .before
+    .before .before .args .node) (c .before .before .before .before .before .before .before .before .before .before .before .before
+    .before .if1 .n) (tidied-here (c .before .before .before .before .before .before .before .before .before .before .before .before
+    .before))))
 
 slice-aggregate-unwrap-2 : tie.Need-slice-aggregate-unwrap-2
 slice-aggregate-unwrap-2 c = search needs
@@ -149,7 +196,22 @@ same-length-12 : tie.Need-same-length-12
 same-length-12 c = search needs
 
 returns-6 : tie.Need-returns-6
-returns-6 c = rw (c .silent6 .ensures) (bad (c .before .before .before .before .before .before .before .before .before .before .before .before .before .before .before .before .before .before .before .before .before .before .before .before .args .node) (c .before .before .before .before .before .before .before .before .before .before .before .before .before .before .before .before .before .before .before .if1 .n) (c .before .before .before .before .before .before .before .before .before .before .before .before .before .before .before .before .before .before .before .before .before .before .before .before .args .byte) (c .before .before .before .before .before .before .before .before .before .before .before .before .before .before .before .before .before .before .before .before .before .before .before .before .args .flash .now) (c .before .before .before .before .before .before .before .before .before .before .before .before .before .before .before .before .before .before .before .before .before .before .before .before .args .eeprom .now) (tidied-here (c .before .before .before .before .before .before .before .before .before .before .before .before .before .before .before .before .before .before .before)) (full-here (c .before .before .before .before .before .before .before .before .before .before .before .before .before .before .before)) (open-here (c .before .before .before .before .before .before .before .before .before .before .before .before)) (hears-here (c .before .before .before .before .before .before .before .before .before .before)) (c .before .before .before .before .before .before .before .before .if7 .left) (c .before .before .before .before .unwrap .result) (c .before .held-after-bad .result) (c .before .before .before .before .unwrap .ensures .0) (c .before .before .if8 .taken) (c .before .held-after-bad .ensures))
+returns-6 c = rw (c .silent6 .ensures) (bad (c .before .before .before .before .before .before .before .before .before .before .before
+    .before .before .before .before .before .before .before .before .before .before .before .before .before .args .node)
+    (c .before .before .before .before .before .before .before .before .before .before .before .before .before .before .before .before
+    .before .before .before .if1 .n) (c .before .before .before .before .before .before .before .before .before .before .before .before
+    .before .before .before .before .before .before .before .before .before .before .before .before .args .byte)
+    (c .before .before .before .before .before .before .before .before .before .before .before .before .before .before .before .before
+    .before .before .before .before .before .before .before .before .args .flash .now)
+    (c .before .before .before .before .before .before .before .before .before .before .before .before .before .before .before .before
+    .before .before .before .before .before .before .before .before .args .eeprom .now) (tidied-here
+    (c .before .before .before .before .before .before .before .before .before .before .before .before .before .before .before .before
+    .before .before .before)) (full-here (c .before .before .before .before .before .before .before .before .before .before .before
+    .before .before .before .before)) (open-here (c .before .before .before .before .before .before .before .before .before .before
+    .before .before)) (hears-here (c .before .before .before .before .before .before .before .before .before .before))
+    (c .before .before .before .before .before .before .before .before .if7 .left) (c .before .before .before .before .unwrap .result)
+    (c .before .held-after-bad .result) (c .before .before .before .before .unwrap .ensures .0) (c .before .before .if8 .taken)
+    (c .before .held-after-bad .ensures))
 
 none-held-requires : tie.Need-none-held-requires
 none-held-requires c κs = search needs
@@ -170,7 +232,33 @@ same-length-14 : tie.Need-same-length-14
 same-length-14 c = search needs
 
 returns-7 : tie.Need-returns-7
-returns-7 c = whole (c .before .before .before .before .before .before .before .before .before .before .before .before .before .before .before .before .before .before .before .before .before .before .before .before .before .before .before .before .before .before .before .before .args .node) (c .before .before .before .before .before .before .before .before .before .before .before .before .before .before .before .before .before .before .before .before .before .before .before .before .before .before .before .if1 .n) (c .before .before .before .before .before .before .before .before .before .before .before .before .before .before .before .before .before .before .before .before .before .before .before .before .before .before .before .before .before .before .before .before .args .byte) (c .before .before .before .before .before .before .before .before .before .before .before .before .before .before .before .before .before .before .before .before .before .before .before .before .before .before .before .before .before .before .before .before .args .flash .now) (c .before .before .before .before .before .before .before .before .before .before .before .before .before .before .before .before .before .before .before .before .before .before .before .before .before .before .before .before .before .before .before .before .args .eeprom .now) (tidied-here (c .before .before .before .before .before .before .before .before .before .before .before .before .before .before .before .before .before .before .before .before .before .before .before .before .before .before .before)) (full-here (c .before .before .before .before .before .before .before .before .before .before .before .before .before .before .before .before .before .before .before .before .before .before .before)) (open-here (c .before .before .before .before .before .before .before .before .before .before .before .before .before .before .before .before .before .before .before .before)) (hears-here (c .before .before .before .before .before .before .before .before .before .before .before .before .before .before .before .before .before .before)) (c .before .before .before .before .before .before .before .before .before .before .before .before .before .before .before .before .if7 .left) (c .before .before .before .before .before .before .before .before .before .before .before .before .unwrap .result) _ _ _ (c .before .before .before .before .before .can-frame .result) (c .before .before .before .before .before .before .before .before .before .none-held .result) (c .on-uart .result) (c .before .before .before .before .before .before .before .before .before .before .before .before .unwrap .ensures .0) (c .before .before .before .before .before .before .before .before .before .before .if8 .left) (c .before .before .before .before .before .before .before .before .before .before .before .before .unwrap .ensures .1) (c .before .before .before .before .before .before .before .before .before .none-held .ensures) (c .before .before .before .before .before .can-frame .ensures) (c .on-uart .ensures)
+returns-7 c = whole (c .before .before .before .before .before .before .before .before .before .before .before .before .before .before
+    .before .before .before .before .before .before .before .before .before .before .before .before .before .before .before .before
+    .before .before .args .node) (c .before .before .before .before .before .before .before .before .before .before .before .before
+    .before .before .before .before .before .before .before .before .before .before .before .before .before .before .before .if1 .n)
+    (c .before .before .before .before .before .before .before .before .before .before .before .before .before .before .before .before
+    .before .before .before .before .before .before .before .before .before .before .before .before .before .before .before .before .args
+    .byte) (c .before .before .before .before .before .before .before .before .before .before .before .before .before .before .before
+    .before .before .before .before .before .before .before .before .before .before .before .before .before .before .before .before
+    .before .args .flash .now) (c .before .before .before .before .before .before .before .before .before .before .before .before .before
+    .before .before .before .before .before .before .before .before .before .before .before .before .before .before .before .before
+    .before .before .before .args .eeprom .now) (tidied-here
+    (c .before .before .before .before .before .before .before .before .before .before .before .before .before .before .before .before
+    .before .before .before .before .before .before .before .before .before .before .before)) (full-here
+    (c .before .before .before .before .before .before .before .before .before .before .before .before .before .before .before .before
+    .before .before .before .before .before .before .before)) (open-here
+    (c .before .before .before .before .before .before .before .before .before .before .before .before .before .before .before .before
+    .before .before .before .before)) (hears-here (c .before .before .before .before .before .before .before .before .before .before
+    .before .before .before .before .before .before .before .before))
+    (c .before .before .before .before .before .before .before .before .before .before .before .before .before .before .before .before
+    .if7 .left) (c .before .before .before .before .before .before .before .before .before .before .before .before .unwrap .result) _ _ _
+    (c .before .before .before .before .before .can-frame .result)
+    (c .before .before .before .before .before .before .before .before .before .none-held .result) (c .on-uart .result)
+    (c .before .before .before .before .before .before .before .before .before .before .before .before .unwrap .ensures .0)
+    (c .before .before .before .before .before .before .before .before .before .before .if8 .left)
+    (c .before .before .before .before .before .before .before .before .before .before .before .before .unwrap .ensures .1)
+    (c .before .before .before .before .before .before .before .before .before .none-held .ensures)
+    (c .before .before .before .before .before .can-frame .ensures) (c .on-uart .ensures)
 
 pub uart-byte-spec : {M : Type 1} → statement M
 uart-byte-spec =

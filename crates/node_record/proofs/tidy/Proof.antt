@@ -14,7 +14,8 @@ is-tidy-requires c κs = search needs
 
 returns : tie.Need-returns
 returns c =
-    kept-tidied (c .before .before .before .args .node) (c .before .before .tidy-receiver .result) (c .before .before .tidy-receiver .ensures)
+    kept-tidied (c .before .before .before .args .node) (c .before .before .tidy-receiver .result)
+    (c .before .before .tidy-receiver .ensures)
     (sym (c .before .is-tidy .ensures) ∙ c .if1 .taken)
 
 with-mode-requires : tie.Need-with-mode-requires

@@ -51,7 +51,10 @@ add-result-2 c = search needs
 
 returns-2 : tie.Need-returns-2
 returns-2 c = (
-  address-at (c .before .before .before .before .before .before .before .before .args .input .now) (c .before .before .before .before .before .before .before .before .args .place) _ _ _ (c .before .before .before .before .wide .ensures .0 ∙ c .before .before .before .before .before .byte-at .ensures) (c .before .before .wide2 .ensures .0 ∙ c .before .before .before .byte-at2 .ensures)
+  address-at (c .before .before .before .before .before .before .before .before .args .input .now)
+      (c .before .before .before .before .before .before .before .before .args .place) _ _ _
+      (c .before .before .before .before .wide .ensures .0 ∙ c .before .before .before .before .before .byte-at .ensures)
+      (c .before .before .wide2 .ensures .0 ∙ c .before .before .before .byte-at2 .ensures)
       (c .wide3 .ensures .0 ∙ c .before .byte-at3 .ensures),
   omega (arith, c .before .before .before .before .wide .ensures .1, c .before .before .wide2 .ensures .1, c .wide3 .ensures .1),
 )

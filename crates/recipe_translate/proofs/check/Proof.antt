@@ -1,5 +1,5 @@
--- `recipe_translate::check` meets its contract. The loop keeps that the reading from the start is what was read so far and then the reading from
--- the cursor on; what is left of the input falls.
+-- `recipe_translate::check` meets its contract. The loop keeps that the reading from the start is what was read so far and then the
+-- reading from the cursor on; what is left of the input falls.
 -- Assumes nothing.
 use Prim.Native.Nat.{_-_}
 use lib.ListN.{length}
@@ -17,27 +17,37 @@ loop-holds : tie.Need-loop-holds Inv-loop μ-loop
 loop-holds c = kept-start (c .before .args .input .now)
 
 returns : tie.Need-returns Inv-loop μ-loop
-returns c = kept-done (c .before .before .before .before .args .input .now) (c .before .before .loop .c) (c .before .before .loop .inv) (c .before .if1 .taken) (c .if2 .taken)
+returns c = kept-done (c .before .before .before .before .args .input .now) (c .before .before .loop .c) (c .before .before .loop .inv)
+    (c .before .if1 .taken) (c .if2 .taken)
 
 returns-2 : tie.Need-returns-2 Inv-loop μ-loop
-returns-2 c = kept-open (c .before .before .before .before .args .input .now) (c .before .before .loop .c) (c .before .before .loop .inv) (c .before .if1 .taken) (c .if2 .left)
+returns-2 c = kept-open (c .before .before .before .before .args .input .now) (c .before .before .loop .c)
+    (c .before .before .loop .inv) (c .before .if1 .taken) (c .if2 .left)
 
 fault-at-requires : tie.Need-fault-at-requires Inv-loop μ-loop
 fault-at-requires c κs = c .if1 .left
 
 returns-3 : tie.Need-returns-3 Inv-loop μ-loop
-returns-3 c = kept-fault (c .before .before .before .before .before .args .input .now) (c .before .before .before .loop .c) (c .before .before .before .loop .inv) (c .before .fault-at .result) (c .before .before .if1 .left) (c .before .fault-at .ensures) (c .if3 .taken)
+returns-3 c = kept-fault (c .before .before .before .before .before .args .input .now) (c .before .before .before .loop .c)
+    (c .before .before .before .loop .inv) (c .before .fault-at .result) (c .before .before .if1 .left) (c .before .fault-at .ensures)
+    (c .if3 .taken)
 
 next-requires : tie.Need-next-requires Inv-loop μ-loop
-next-requires c κs = at-item (c .before .before .before .before .before .args .input .now) (c .before .before .before .loop .c) (c .before .before .before .loop .inv) (c .before .fault-at .result) (c .before .before .if1 .left) (c .before .fault-at .ensures) (c .if3 .left)
+next-requires c κs = at-item (c .before .before .before .before .before .args .input .now) (c .before .before .before .loop .c)
+    (c .before .before .before .loop .inv) (c .before .fault-at .result) (c .before .before .if1 .left) (c .before .fault-at .ensures)
+    (c .if3 .left)
 
 loop-less : tie.Need-loop-less Inv-loop μ-loop
-loop-less c = nearer (c .before .before .before .before .before .before .args .input .now) (c .before .before .before .before .loop .c) (c .next .result) (c .before .before .before .if1 .left) (c .next .ensures)
+loop-less c = nearer (c .before .before .before .before .before .before .args .input .now) (c .before .before .before .before .loop .c)
+    (c .next .result) (c .before .before .before .if1 .left) (c .next .ensures)
 
 loop-again : tie.Need-loop-again Inv-loop μ-loop
 loop-again c =
-    kept-next (c .before .before .before .before .before .before .args .input .now) (c .before .before .before .before .loop .c) (c .before .before .before .before .loop .inv) (c .next .result)
-    (at-item (c .before .before .before .before .before .before .args .input .now) (c .before .before .before .before .loop .c) (c .before .before .before .before .loop .inv) (c .before .before .fault-at .result) (c .before .before .before .if1 .left) (c .before .before .fault-at .ensures) (c .before .if3 .left)) (c .next .ensures)
+    kept-next (c .before .before .before .before .before .before .args .input .now) (c .before .before .before .before .loop .c)
+    (c .before .before .before .before .loop .inv) (c .next .result)
+    (at-item (c .before .before .before .before .before .before .args .input .now) (c .before .before .before .before .loop .c)
+    (c .before .before .before .before .loop .inv) (c .before .before .fault-at .result) (c .before .before .before .if1 .left)
+    (c .before .before .fault-at .ensures) (c .before .if3 .left)) (c .next .ensures)
 
 pub check-spec : {M : Type 1} → statement M
 check-spec =

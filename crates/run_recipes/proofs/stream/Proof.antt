@@ -9,7 +9,8 @@ use Rattle.run_recipes.proofs.stream.Statement.{statement}
 use Rattle.run_recipes.proofs.stream.Tie as tie
 
 abbrev Inv-loop : tie.InvT-loop
-Inv-loop space₀ output₀ flash₀ eeprom₀ at₀ space output flash eeprom at = (length space ≡ length space₀) × (length output ≡ length output₀) × (length flash ≡ length flash₀) × (length eeprom ≡ length eeprom₀)
+Inv-loop space₀ output₀ flash₀ eeprom₀ at₀ space output flash eeprom at = (length space ≡ length space₀) ×
+    (length output ≡ length output₀) × (length flash ≡ length flash₀) × (length eeprom ≡ length eeprom₀)
 
 abbrev μ-loop : tie.MeasureT-loop
 μ-loop space₀ output₀ flash₀ eeprom₀ at₀ space output flash eeprom at = 0xFFFFFFFE - at

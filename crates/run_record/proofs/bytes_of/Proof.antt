@@ -13,9 +13,6 @@ pin-byte-requires c κs = search needs
 last-of-requires : tie.Need-last-of-requires
 last-of-requires c κs = search needs
 
-array-read-t10 : tie.Need-array-read-t10
-array-read-t10 c = search needs
-
 array-read-t13 : tie.Need-array-read-t13
 array-read-t13 c = search needs
 
@@ -31,11 +28,11 @@ array-read-t22 c = search needs
 array-read-t25 : tie.Need-array-read-t25
 array-read-t25 c = search needs
 
-cast-t27 : tie.Need-cast-t27
-cast-t27 c = search needs
+array-read-t28 : tie.Need-array-read-t28
+array-read-t28 c = search needs
 
-array-read-t30 : tie.Need-array-read-t30
-array-read-t30 c = search needs
+cast-t30 : tie.Need-cast-t30
+cast-t30 c = search needs
 
 array-read-t33 : tie.Need-array-read-t33
 array-read-t33 c = search needs
@@ -76,8 +73,8 @@ array-read-t66 c = search needs
 array-read-t69 : tie.Need-array-read-t69
 array-read-t69 c = search needs
 
-cast-t71 : tie.Need-cast-t71
-cast-t71 c = search needs
+array-read-t72 : tie.Need-array-read-t72
+array-read-t72 c = search needs
 
 cast-t74 : tie.Need-cast-t74
 cast-t74 c = search needs
@@ -85,14 +82,18 @@ cast-t74 c = search needs
 cast-t77 : tie.Need-cast-t77
 cast-t77 c = search needs
 
-cast-t79 : tie.Need-cast-t79
-cast-t79 c = search needs
+cast-t80 : tie.Need-cast-t80
+cast-t80 c = search needs
+
+cast-t82 : tie.Need-cast-t82
+cast-t82 c = search needs
 
 returns : tie.Need-returns
 returns c =
-    let n = c .before .before .before .before .before .before .before .before .before .args .n in
-    let six : length (n .fixed) ≡ 6 = search (needs, c .before .before .before .before .before .before .before .before .before .good) in
-    let fifteen : length (n .held) ≡ 15 = search (needs, c .before .before .before .before .before .before .before .before .before .good) in
+    let start = c .before .before .before .before .before .before .before .before .before .before .before .before in
+    let n = start .args .n in
+    let six : length (n .plate .fixed) ≡ 6 = search needs in
+    let fifteen : length (n .receiver .held) ≡ 15 = search (needs, start .good .0 .1 .1 .1 .1 .0) in
     let last = c .before .before .before .before .before .last-of in
     let e = last .ensures in
     let r = last .result in
@@ -105,14 +106,13 @@ bytes-of-spec =
     (tie.spec
     pin-byte-requires
     last-of-requires
-    array-read-t10
     array-read-t13
     array-read-t16
     array-read-t19
     array-read-t22
     array-read-t25
-    cast-t27
-    array-read-t30
+    array-read-t28
+    cast-t30
     array-read-t33
     array-read-t36
     array-read-t39
@@ -126,8 +126,9 @@ bytes-of-spec =
     array-read-t63
     array-read-t66
     array-read-t69
-    cast-t71
+    array-read-t72
     cast-t74
     cast-t77
-    cast-t79
+    cast-t80
+    cast-t82
     returns)

@@ -1,5 +1,5 @@
--- `update_deliver::deliver` meets its contract: the translator is lent no more room than the answers have (proofs/Outcome), so that its own refusal 26
--- stands for both, and accepted frames are handed over.
+-- `update_deliver::deliver` meets its contract: the translator is lent no more room than the answers have (proofs/Outcome), so that its own
+-- refusal 26 stands for both, and accepted frames are handed over.
 -- Assumes nothing.
 use native.Mathlib.Omega.{arith}
 use lib.ListN.{length}
@@ -18,7 +18,9 @@ part-translate-start : tie.Need-part-translate-start
 part-translate-start c = search needs
 
 part-translate-end : tie.Need-part-translate-end
-part-translate-end c = omega (arith, c .room .ensures, room-within (length (c .before .before .before .before .before .before .args .frames .now)) (length (c .before .before .before .before .before .before .args .answers .now)) .0)
+part-translate-end c =
+    let a = c .before .before .before .before .before .before .args in
+    omega (arith, c .room .ensures, room-within (length (a .frames .now)) (length (a .answers .now)) .0)
 
 translate-requires : tie.Need-translate-requires
 translate-requires c κs = search needs
@@ -31,10 +33,13 @@ enum-known-translated-2 c = search needs
 
 hand-over-requires : tie.Need-hand-over-requires
 hand-over-requires c κs =
-    let a = c .before .before .before .before .before .before .before .before .before .before .before .before .before .before .before .before .before .args in
+    let a = c .before .before .before .before .before .before .before .before .before .before .before .before .before .before .before
+    .before .before .args in
+    let room = c .before .before .before .before .before .before .before .before .before .before .before .room in
     let f = c .before .before .before .before .before .before .before .before .before .translate in
-    step-fits (a .recipe .now) (a .node) (a .flash .now) (a .eeprom .now) (a .frames .now) (a .answers .now) (c .before .before .before .before .before .before .before .before .before .before .before .room .result) (f .result) (f .last .1 .0)
-    (c .before .before .before .before .before .before .before .before .before .before .before .room .ensures) (f .ensures .0) (f .ensures .1) (c .before .before .before .before .before .translated2 .given .0 .0) (c .before .before .before .before .before .translated2 .given .1) (f .kept .1 .0)
+    let t = c .before .before .before .before .before .translated2 in
+    step-fits (a .recipe .now) (a .node) (a .flash .now) (a .eeprom .now) (a .frames .now) (a .answers .now) (room .result) (f .result)
+    (f .last .1 .0) (room .ensures) (f .ensures .0) (f .ensures .1) (t .given .0 .0) (t .given .1) (f .kept .1 .0)
 
 same-length : tie.Need-same-length
 same-length c = search needs
@@ -42,9 +47,10 @@ same-length c = search needs
 returns : tie.Need-returns
 returns c =
     let a = c .before .before .before .before .before .before .before .before .before .before .before .before .before .args in
+    let room = c .before .before .before .before .before .before .before .room in
     let f = c .before .before .before .before .before .translate in
-    step-refused (a .recipe .now) (a .node) (a .flash .now) (a .eeprom .now) (a .frames .now) (a .answers .now) (c .before .before .before .before .before .before .before .room .result) (f .result) (f .last .1 .0)
-    (c .before .before .before .before .before .before .before .room .ensures) (f .ensures .0) (f .ensures .1) _ _ (c .before .translated .given .1)
+    step-refused (a .recipe .now) (a .node) (a .flash .now) (a .eeprom .now) (a .frames .now) (a .answers .now) (room .result) (f .result)
+    (f .last .1 .0) (room .ensures) (f .ensures .0) (f .ensures .1) _ _ (c .before .translated .given .1)
 
 same-length-2 : tie.Need-same-length-2
 same-length-2 c = search needs
@@ -60,12 +66,17 @@ same-length-5 c = search needs
 
 returns-2 : tie.Need-returns-2
 returns-2 c =
-    let a = c .before .before .before .before .before .before .before .before .before .before .before .before .before .before .before .before .before .before .before .before .before .before .before .before .args in
-    let f = c .before .before .before .before .before .before .before .before .before .before .before .before .before .before .before .before .translate in
+    let a = c .before .before .before .before .before .before .before .before .before .before .before .before .before .before .before
+    .before .before .before .before .before .before .before .before .before .args in
+    let room = c .before .before .before .before .before .before .before .before .before .before .before .before .before .before .before
+    .before .before .before .room in
+    let f = c .before .before .before .before .before .before .before .before .before .before .before .before .before .before .before
+    .before .translate in
+    let t = c .before .before .before .before .before .before .before .before .before .before .before .before .translated2 in
     let h = c .before .before .before .before .before .before .hand-over in
-    step-done (a .recipe .now) (a .node) (a .flash .now) (a .eeprom .now) (a .frames .now) (a .answers .now) (c .before .before .before .before .before .before .before .before .before .before .before .before .before .before .before .before .before .before .room .result) (f .result) (f .last .1 .0)
-    (c .before .before .before .before .before .before .before .before .before .before .before .before .before .before .before .before .before .before .room .ensures) (f .ensures .0) (f .ensures .1) (c .before .before .before .before .before .before .before .before .before .before .before .before .translated2 .given .0 .0) (c .before .before .before .before .before .before .before .before .before .before .before .before .translated2 .given .1)
-    (h .result) (h .last .1 .1 .1 .0) (h .last .1 .1 .1 .1 .0) (h .last .1 .1 .1 .1 .1 .0) (h .ensures)
+    step-done (a .recipe .now) (a .node) (a .flash .now) (a .eeprom .now) (a .frames .now) (a .answers .now) (room .result) (f .result)
+    (f .last .1 .0) (room .ensures) (f .ensures .0) (f .ensures .1) (t .given .0 .0) (t .given .1) (h .result) (h .last .1 .1 .1 .0)
+    (h .last .1 .1 .1 .1 .0) (h .last .1 .1 .1 .1 .1 .0) (h .ensures)
 
 pub deliver-spec : {M : Type 1} → statement M
 deliver-spec =

@@ -21,7 +21,13 @@ firmware-starts-requires : tie.Need-firmware-starts-requires
 firmware-starts-requires c κs = search needs
 
 returns-2 : tie.Need-returns-2
-returns-2 c = simp (c .before .before .before .before .if1 .taken, ← c .before .before .byte-at .ensures, ne-eqb _ 0xFF (c .before .if2 .left), c .firmware-starts .ensures)
+returns-2 c = simp (
+  c .before .before .before .before .if1 .taken,
+  ← c .before .before .byte-at .ensures,
+  ne-eqb _ 0xFF
+      (c .before .if2 .left),
+  c .firmware-starts .ensures,
+)
 
 returns-3 : tie.Need-returns-3
 returns-3 c = search needs

@@ -47,7 +47,11 @@ loop-holds c = (
   omega arith,
   search needs,
   search needs,
-  ap (λ (h : List ℕ). record { held = h; count = c .before .before .before .before .args .r .count }) (none-cleared (c .before .before .before .before .args .r .held) (c .before .before .before .before .args .r .count) (omega (arith, c .before .before .before .if1 .left))),
+  ap (λ (h : List ℕ). record { held = h; count = c .before .before .before .before .args .r .count }) (none-cleared
+      (c .before .before .before .before .args .r .held) (c .before .before .before .before .args .r .count) (omega (
+        arith,
+        c .before .before .before .if1 .left,
+      ))),
 )
 
 element-write-t : tie.Need-element-write-t Inv-loop μ-loop
@@ -74,7 +78,10 @@ loop-again c =
       omega (arith, inv .0),
       omega arith,
       inv .2,
-      ap (λ (t : Receiver). length (t .held)) next ∙ length-cleared h k (i + 1) (inv .2) (omega (arith, c .before .before .before .before .before .if2 .left)) (omega arith),
+      ap (λ (t : Receiver). length (t .held)) next ∙ length-cleared h k (i + 1) (inv .2) (omega (
+        arith,
+        c .before .before .before .before .before .if2 .left,
+      )) (omega arith),
       next,
     )
 
@@ -85,7 +92,10 @@ returns-4 c =
     let i : c .before .loop .i ≡ 15 = omega (arith, inv .1, c .loop-test .left) in
     inv .4
     ∙ ap (λ (k : ℕ). record { held = clearedTo (r .held) (r .count) k; count = r .count }) i
-    ∙ all-cleared r (inv .2) (omega (arith, c .before .before .before .before .if2 .left)) (c .before .before .if3 .left) (omega (arith, c .before .before .before .before .before .if1 .left))
+    ∙ all-cleared r (inv .2) (omega (arith, c .before .before .before .before .if2 .left)) (c .before .before .if3 .left) (omega (
+      arith,
+      c .before .before .before .before .before .if1 .left,
+    ))
 
 pub tidy-receiver-spec : {M : Type 1} → statement M
 tidy-receiver-spec =

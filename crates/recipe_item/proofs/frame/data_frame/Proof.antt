@@ -32,7 +32,10 @@ shared-slice-read-t19 : tie.Need-shared-slice-read-t19
 shared-slice-read-t19 c = search needs
 
 returns : tie.Need-returns
-returns c = ap (dataFrame (c .before .before .before .before .before .before .before .before .args .m .0) (c .before .before .before .before .before .before .before .before .args .g .0)) (listed-all (c .before .before .before .before .before .before .before .before .args .cells .now) 8 (c .before .before .before .before .before .before .before .before .pre))
+returns c = ap (dataFrame (c .before .before .before .before .before .before .before .before .args .m .0)
+    (c .before .before .before .before .before .before .before .before .args .g .0)) (listed-all
+    (c .before .before .before .before .before .before .before .before .args .cells .now) 8
+    (c .before .before .before .before .before .before .before .before .pre))
 
 pub data-frame-spec : {M : Type 1} → statement M
 data-frame-spec =

@@ -35,7 +35,10 @@ same-length c = search needs
 returns : tie.Need-returns
 returns c =
     let twelve : length (c .before .before .before .before .before .before .args .t3) ≡ 12 = search needs in
-    put-back (c .before .before .before .before .before .before .args .output .now) (c .before .before .before .before .before .before .args .at) 12 _ (c .before .before .before .before .before .before .args .t3) (c .before .before .copy .ensures .1 ∙ mix-all (c .before .before .before .before .before .before .args .t3) _ (length (c .before .before .before .before .before .before .args .t3)) refl (simp (length-take, length-drop) (omega arith))) twelve
+    put-back (c .before .before .before .before .before .before .args .output .now)
+    (c .before .before .before .before .before .before .args .at) 12 _ (c .before .before .before .before .before .before .args .t3)
+    (c .before .before .copy .ensures .1 ∙ mix-all (c .before .before .before .before .before .before .args .t3) _ (length
+    (c .before .before .before .before .before .before .args .t3)) refl (simp (length-take, length-drop) (omega arith))) twelve
 
 pub put-spec : {M : Type 1} → statement M
 put-spec =

@@ -30,8 +30,10 @@ same-length c = search needs
 returns : tie.Need-returns
 returns c =
     let a = c .before .before .before .before .before .before .before .before .before .before .before .args in
-    block-patched (a .m .0) (a .g .0) (a .address .0) (part (a .input .now) (a .place + 4) 64) (a .output .now) (c .before .before .before .before .before .before .put-pair .last .0)
-    (c .before .before .put-writes .last .1 .1 .0) (a .at) (a .at + 24) (omega arith) refl (c .before .before .before .before .before .before .put-pair .ensures) (c .before .before .put-writes .ensures)
+    block-patched (a .m .0) (a .g .0) (a .address .0) (part (a .input .now) (a .place + 4) 64) (a .output .now)
+    (c .before .before .before .before .before .before .put-pair .last .0)
+    (c .before .before .put-writes .last .1 .1 .0) (a .at) (a .at + 24) (omega arith) refl
+    (c .before .before .before .before .before .before .put-pair .ensures) (c .before .before .put-writes .ensures)
 
 pub put-block-spec : {M : Type 1} → statement M
 put-block-spec =

@@ -28,9 +28,19 @@ same-length c = search needs
 
 returns : tie.Need-returns
 returns c =
-    patched-pair (c .before .before .before .before .before .before .before .before .before .before .before .before .args .output .now) (c .before .before .before .before .before .before .before .put .last .0) (c .before .before .put2 .last .0) _ _
-    (addressFrame (c .before .before .before .before .before .before .before .before .before .before .before .before .args .m .0) (c .before .before .before .before .before .before .before .before .before .before .before .before .args .g .0) (c .before .before .before .before .before .before .before .before .before .before .before .before .args .command) (c .before .before .before .before .before .before .before .before .before .before .before .before .args .address)) (dataFrame (c .before .before .before .before .before .before .before .before .before .before .before .before .args .m .0) (c .before .before .before .before .before .before .before .before .before .before .before .before .args .g .0) (c .before .before .before .before .before .before .before .before .before .before .before .before .args .cells .now))
-    (c .before .before .before .before .before .before .before .before .before .before .before .before .args .at) (omega arith) refl (c .before .before .before .before .before .before .before .before .address-frame .ensures) (c .before .before .before .data-frame .ensures) (c .before .before .before .before .before .before .before .put .ensures) (c .before .before .put2 .ensures)
+    patched-pair (c .before .before .before .before .before .before .before .before .before .before .before .before .args .output .now)
+    (c .before .before .before .before .before .before .before .put .last .0) (c .before .before .put2 .last .0) _ _
+    (addressFrame (c .before .before .before .before .before .before .before .before .before .before .before .before .args .m .0)
+    (c .before .before .before .before .before .before .before .before .before .before .before .before .args .g .0)
+    (c .before .before .before .before .before .before .before .before .before .before .before .before .args .command)
+    (c .before .before .before .before .before .before .before .before .before .before .before .before .args .address)) (dataFrame
+    (c .before .before .before .before .before .before .before .before .before .before .before .before .args .m .0)
+    (c .before .before .before .before .before .before .before .before .before .before .before .before .args .g .0)
+    (c .before .before .before .before .before .before .before .before .before .before .before .before .args .cells .now))
+    (c .before .before .before .before .before .before .before .before .before .before .before .before .args .at) (omega arith) refl
+    (c .before .before .before .before .before .before .before .before .address-frame .ensures)
+    (c .before .before .before .data-frame .ensures) (c .before .before .before .before .before .before .before .put .ensures)
+    (c .before .before .put2 .ensures)
 
 pub put-pair-spec : {M : Type 1} → statement M
 put-pair-spec =

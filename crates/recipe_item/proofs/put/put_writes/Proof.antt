@@ -18,7 +18,8 @@ abbrev μ-loop : tie.MeasureT-loop
 loop-holds : tie.Need-loop-holds Inv-loop μ-loop
 loop-holds c =
     let a = c .before .before .args in
-    writing-start (a .input .now) (a .from) (a .output .now) (a .at) (a .m .0) (a .g .0) (a .address) (c .before .before .pre .0) (c .before .before .pre .1)
+    writing-start (a .input .now) (a .from) (a .output .now) (a .at) (a .m .0) (a .g .0) (a .address) (c .before .before .pre .0)
+    (c .before .before .pre .1)
 
 mul-cells : tie.Need-mul-cells Inv-loop μ-loop
 mul-cells c = omega arith
@@ -48,12 +49,18 @@ put-pair-requires : tie.Need-put-pair-requires Inv-loop μ-loop
 put-pair-requires c κs =
     let a = c .before .before .before .before .before .before .args in
     let long : length (c .before .before .before .loop .output) ≡ length (a .output .now) =
-    writing-long (a .input .now) (a .from) (a .output .now) (a .at) (a .m .0) (a .g .0) (a .address) (c .before .before .before .before .before .before .pre .0) (c .before .before .before .before .before .before .pre .1)
-    (c .before .before .before .loop .output) (c .before .before .before .loop .row) (c .before .before .before .loop .i) (c .before .before .before .loop .inv) in
+    writing-long (a .input .now) (a .from) (a .output .now) (a .at) (a .m .0) (a .g .0) (a .address)
+    (c .before .before .before .before .before .before .pre .0) (c .before .before .before .before .before .before .pre .1)
+    (c .before .before .before .loop .output) (c .before .before .before .loop .row) (c .before .before .before .loop .i)
+    (c .before .before .before .loop .inv) in
     (omega arith, search needs)
 
 add-row : tie.Need-add-row Inv-loop μ-loop
-add-row c = omega (arith, c .before .before .before .before .before .before .loop .inv .address, c .before .before .before .before .before .before .before .before .before .pre .2)
+add-row c = omega (
+  arith,
+  c .before .before .before .before .before .before .loop .inv .address,
+  c .before .before .before .before .before .before .before .before .before .pre .2,
+)
 
 add-i : tie.Need-add-i Inv-loop μ-loop
 add-i c = omega arith
@@ -66,20 +73,24 @@ loop-again c =
     let a = c .before .before .before .before .before .before .before .before .before .args in
     let l = c .before .before .before .before .before .before .loop in
     let eight : a .from + 8 * l .i + 8 - (a .from + 8 * l .i) ≡ 8 = omega arith in
-    writing-next (a .input .now) (a .from) (a .output .now) (a .at) (a .m .0) (a .g .0) (a .address) (c .before .before .before .before .before .before .before .before .before .pre .0) (c .before .before .before .before .before .before .before .before .before .pre .1)
+    writing-next (a .input .now) (a .from) (a .output .now) (a .at) (a .m .0) (a .g .0) (a .address)
+    (c .before .before .before .before .before .before .before .before .before .pre .0)
+    (c .before .before .before .before .before .before .before .before .before .pre .1)
     (l .output) (c .before .before .put-pair .last .0) _ (l .row) (l .i) (l .inv) (omega arith)
     (ap (λ (n : ℕ). take n (drop (a .from + 8 * l .i) (a .input .now))) eight) (c .before .before .put-pair .ensures)
 
 same-length : tie.Need-same-length Inv-loop μ-loop
 same-length c =
     let a = c .before .before .before .before .args in
-    writing-long (a .input .now) (a .from) (a .output .now) (a .at) (a .m .0) (a .g .0) (a .address) (c .before .before .before .before .pre .0) (c .before .before .before .before .pre .1)
+    writing-long (a .input .now) (a .from) (a .output .now) (a .at) (a .m .0) (a .g .0) (a .address)
+    (c .before .before .before .before .pre .0) (c .before .before .before .before .pre .1)
     (c .before .loop .output) (c .before .loop .row) (c .before .loop .i) (c .before .loop .inv)
 
 returns : tie.Need-returns Inv-loop μ-loop
 returns c =
     let a = c .before .before .before .before .args in
-    writing-end (a .input .now) (a .from) (a .output .now) (a .at) (a .m .0) (a .g .0) (a .address) (c .before .before .before .before .pre .0) (c .before .before .before .before .pre .1)
+    writing-end (a .input .now) (a .from) (a .output .now) (a .at) (a .m .0) (a .g .0) (a .address)
+    (c .before .before .before .before .pre .0) (c .before .before .before .before .pre .1)
     (c .before .loop .output) (c .before .loop .row) (c .before .loop .i) (c .before .loop .inv) (omega arith)
 
 pub put-writes-spec : {M : Type 1} → statement M

@@ -12,21 +12,28 @@ shared-slice-read-kind : tie.Need-shared-slice-read-kind
 shared-slice-read-kind c = search needs
 
 returns : tie.Need-returns
-returns c = many-there (c .before .before .before .args .input .now) (c .before .before .before .args .place) (c .before .before .before .args .number) (c .before .before .before .args .ended) (c .if1 .taken)
+returns c = many-there (c .before .before .before .args .input .now) (c .before .before .before .args .place)
+    (c .before .before .before .args .number) (c .before .before .before .args .ended) (c .if1 .taken)
 
 is-known-requires : tie.Need-is-known-requires
 is-known-requires c κs = search needs
 
 returns-2 : tie.Need-returns-2
 returns-2 c =
-    unknown-there (c .before .before .before .before .before .args .input .now) (c .before .before .before .before .before .args .place) (c .before .before .before .before .before .args .number) (c .before .before .before .before .before .args .ended) (c .before .before .if1 .left) (sym (c .before .is-known .ensures) ∙ not-true _ (c .if2 .taken))
+    unknown-there (c .before .before .before .before .before .args .input .now) (c .before .before .before .before .before .args .place)
+    (c .before .before .before .before .before .args .number) (c .before .before .before .before .before .args .ended)
+    (c .before .before .if1 .left) (sym (c .before .is-known .ensures) ∙ not-true _ (c .if2 .taken))
 
 out-of-place-requires : tie.Need-out-of-place-requires
 out-of-place-requires c κs = search needs
 
 returns-3 : tie.Need-returns-3
 returns-3 c =
-    misplaced-there (c .before .before .before .before .before .before .before .args .input .now) (c .before .before .before .before .before .before .before .args .place) (c .before .before .before .before .before .before .before .args .number) (c .before .before .before .before .before .before .before .args .ended) (c .before .before .before .before .if1 .left) (sym (c .before .before .before .is-known .ensures) ∙ not-false _ (c .before .before .if2 .left))
+    misplaced-there (c .before .before .before .before .before .before .before .args .input .now)
+    (c .before .before .before .before .before .before .before .args .place)
+    (c .before .before .before .before .before .before .before .args .number)
+    (c .before .before .before .before .before .before .before .args .ended) (c .before .before .before .before .if1 .left) (sym
+    (c .before .before .before .is-known .ensures) ∙ not-false _ (c .before .before .if2 .left))
     (sym (c .before .out-of-place .ensures) ∙ c .if3 .taken)
 
 sub-if4 : tie.Need-sub-if4
@@ -40,8 +47,14 @@ add-if4 c = search needs
 
 returns-4 : tie.Need-returns-4
 returns-4 c =
-    short-there (c .before .before .before .before .before .before .before .before .before .args .input .now) (c .before .before .before .before .before .before .before .before .before .args .place) (c .before .before .before .before .before .before .before .before .before .args .number) (c .before .before .before .before .before .before .before .before .before .args .ended) (c .before .before .before .before .before .before .if1 .left) (sym (c .before .before .before .before .before .is-known .ensures) ∙ not-false _ (c .before .before .before .before .if2 .left))
-    (sym (c .before .before .before .out-of-place .ensures) ∙ c .before .before .if3 .left) (c .before .body-length .result) (c .before .body-length .ensures .0) (omega arith)
+    short-there (c .before .before .before .before .before .before .before .before .before .args .input .now)
+    (c .before .before .before .before .before .before .before .before .before .args .place)
+    (c .before .before .before .before .before .before .before .before .before .args .number)
+    (c .before .before .before .before .before .before .before .before .before .args .ended)
+    (c .before .before .before .before .before .before .if1 .left) (sym
+    (c .before .before .before .before .before .is-known .ensures) ∙ not-false _ (c .before .before .before .before .if2 .left))
+    (sym (c .before .before .before .out-of-place .ensures) ∙ c .before .before .if3 .left) (c .before .body-length .result)
+    (c .before .body-length .ensures .0) (omega arith)
 
 address-of-requires : tie.Need-address-of-requires
 address-of-requires c κs = search needs
@@ -51,15 +64,33 @@ is-illegal-requires c κs = search needs
 
 returns-5 : tie.Need-returns-5
 returns-5 c =
-    illegal-there (c .before .before .before .before .before .before .before .before .before .before .before .before .args .input .now) (c .before .before .before .before .before .before .before .before .before .before .before .before .args .place) (c .before .before .before .before .before .before .before .before .before .before .before .before .args .number) (c .before .before .before .before .before .before .before .before .before .before .before .before .args .ended) (c .before .before .before .before .before .before .before .before .before .if1 .left) (sym (c .before .before .before .before .before .before .before .before .is-known .ensures) ∙ not-false _ (c .before .before .before .before .before .before .before .if2 .left))
-    (sym (c .before .before .before .before .before .before .out-of-place .ensures) ∙ c .before .before .before .before .before .if3 .left) (c .before .before .before .before .body-length .result) (c .before .before .before .before .body-length .ensures .0) (omega arith)
-    (c .before .before .address-of .result) (c .before .before .address-of .ensures .0) (sym (c .before .is-illegal .ensures) ∙ c .if5 .taken)
+    illegal-there (c .before .before .before .before .before .before .before .before .before .before .before .before .args .input .now)
+    (c .before .before .before .before .before .before .before .before .before .before .before .before .args .place)
+    (c .before .before .before .before .before .before .before .before .before .before .before .before .args .number)
+    (c .before .before .before .before .before .before .before .before .before .before .before .before .args .ended)
+    (c .before .before .before .before .before .before .before .before .before .if1 .left) (sym
+    (c .before .before .before .before .before .before .before .before .is-known .ensures) ∙ not-false _
+    (c .before .before .before .before .before .before .before .if2 .left))
+    (sym (c .before .before .before .before .before .before .out-of-place .ensures)
+    ∙ c .before .before .before .before .before .if3 .left) (c .before .before .before .before .body-length .result)
+    (c .before .before .before .before .body-length .ensures .0) (omega arith)
+    (c .before .before .address-of .result) (c .before .before .address-of .ensures .0) (sym (c .before .is-illegal .ensures)
+    ∙ c .if5 .taken)
 
 returns-6 : tie.Need-returns-6
 returns-6 c =
-    faultless-there (c .before .before .before .before .before .before .before .before .before .before .before .before .args .input .now) (c .before .before .before .before .before .before .before .before .before .before .before .before .args .place) (c .before .before .before .before .before .before .before .before .before .before .before .before .args .number) (c .before .before .before .before .before .before .before .before .before .before .before .before .args .ended) (c .before .before .before .before .before .before .before .before .before .if1 .left) (sym (c .before .before .before .before .before .before .before .before .is-known .ensures) ∙ not-false _ (c .before .before .before .before .before .before .before .if2 .left))
-    (sym (c .before .before .before .before .before .before .out-of-place .ensures) ∙ c .before .before .before .before .before .if3 .left) (c .before .before .before .before .body-length .result) (c .before .before .before .before .body-length .ensures .0) (omega arith)
-    (c .before .before .address-of .result) (c .before .before .address-of .ensures .0) (sym (c .before .is-illegal .ensures) ∙ c .if5 .left)
+    faultless-there (c .before .before .before .before .before .before .before .before .before .before .before .before .args .input .now)
+    (c .before .before .before .before .before .before .before .before .before .before .before .before .args .place)
+    (c .before .before .before .before .before .before .before .before .before .before .before .before .args .number)
+    (c .before .before .before .before .before .before .before .before .before .before .before .before .args .ended)
+    (c .before .before .before .before .before .before .before .before .before .if1 .left) (sym
+    (c .before .before .before .before .before .before .before .before .is-known .ensures) ∙ not-false _
+    (c .before .before .before .before .before .before .before .if2 .left))
+    (sym (c .before .before .before .before .before .before .out-of-place .ensures)
+    ∙ c .before .before .before .before .before .if3 .left) (c .before .before .before .before .body-length .result)
+    (c .before .before .before .before .body-length .ensures .0) (omega arith)
+    (c .before .before .address-of .result) (c .before .before .address-of .ensures .0) (sym (c .before .is-illegal .ensures)
+    ∙ c .if5 .left)
 
 pub fault-at-spec : {M : Type 1} → statement M
 fault-at-spec =

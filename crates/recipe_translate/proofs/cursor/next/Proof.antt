@@ -28,7 +28,9 @@ add-t13 c = search needs
 
 returns : tie.Need-returns
 returns c =
-    next-is (c .before .before .before .before .before .before .args .input .now) (c .before .before .before .before .before .before .args .c) (c .before .before .before .body-length .result) (c .before .frames-of-kind .result) (c .before .before .before .body-length .ensures .0) (c .before .frames-of-kind .ensures .0)
+    next-is (c .before .before .before .before .before .before .args .input .now)
+    (c .before .before .before .before .before .before .args .c) (c .before .before .before .body-length .result)
+    (c .before .frames-of-kind .result) (c .before .before .before .body-length .ensures .0) (c .before .frames-of-kind .ensures .0)
 
 pub next-spec : {M : Type 1} → statement M
 next-spec =

@@ -18,7 +18,13 @@ returns-4 c = rw (c .match .keys4)
 
 returns-5 : tie.Need-returns-5
 returns-5 c =
-    simp (ne-eqb _ 1 (c .match .rest .0 .0 .0 .1), ne-eqb _ 2 (c .match .rest .0 .0 .1), ne-eqb _ 3 (c .match .rest .0 .1), ne-eqb _ 15 (c .match .rest .1))
+    simp (
+      ne-eqb _ 1 (c .match .rest .0 .0 .0 .1),
+      ne-eqb _ 2 (c .match .rest .0 .0 .1),
+      ne-eqb _ 3 (c .match .rest .0 .1),
+      ne-eqb _ 15
+          (c .match .rest .1),
+    )
 
 pub is-known-spec : {M : Type 1} → statement M
 is-known-spec = tie.close (tie.spec returns returns-2 returns-3 returns-4 returns-5)

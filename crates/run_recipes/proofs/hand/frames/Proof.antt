@@ -9,7 +9,8 @@ use Rattle.run_recipes.proofs.hand.frames.Statement.{statement}
 use Rattle.run_recipes.proofs.hand.frames.Tie as tie
 
 abbrev Inv-loop : tie.InvT-loop
-Inv-loop port output count flash₀ eeprom₀ now₀ most i₀ flash eeprom now i = (most ≤ 36829) × (length flash ≡ length flash₀) × (length eeprom ≡ length eeprom₀)
+Inv-loop port output count flash₀ eeprom₀ now₀ most i₀ flash eeprom now i = (most ≤ 36829) × (length flash ≡ length flash₀) ×
+    (length eeprom ≡ length eeprom₀)
 
 abbrev μ-loop : tie.MeasureT-loop
 μ-loop port output count flash₀ eeprom₀ now₀ most i₀ flash eeprom now i = most - i

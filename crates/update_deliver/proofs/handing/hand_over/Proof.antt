@@ -1,7 +1,12 @@
--- `update_deliver::handing::hand_over` meets its contract. At each turn what was told, and then the delivery of the frames that are left, is the whole
--- delivery (proofs/Turns).
+-- `update_deliver::handing::hand_over` meets its contract. At each turn what was told, and then the delivery of the frames that are left,
+-- is the whole delivery (proofs/Turns).
 -- Assumes nothing.
+use mathlib.Core.Path.{_≡_}
+use Prim.Native.Nat.{_+_, _≤_}
+use lib.ListN.{length}
 use native.Mathlib.Nat.{add-sub-cancel-left}
+use mir.Val.{Fits}
+use mir.Syntax.{w64}
 use borrow.Author.Needs.{needs}
 use Rattle.update_deliver.proofs.Turns.{Handing, handing-start, handing-long, handing-next, handing-end}
 use native.Mathlib.Omega.{arith}
@@ -40,15 +45,36 @@ telling-requires c κs = search needs
 
 put-requires : tie.Need-put-requires Inv-loop μ-loop
 put-requires c κs =
-    let a = c .before .before .before .before .before .before .before .before .before .before .before .before .before .before .before .before .args in
+    let start = c .before .before .before .before .before .before .before .before .before .before .before .before .before .before .before
+    .before in
+    let a = start .args in
     let l = c .before .before .before .before .before .before .before .before .before .before .before .loop in
-    omega (arith, l .inv .there, handing-long (a .frames .now) (a .count) (a .flash .now) (a .eeprom .now) (a .answers .now) (a .node) (l .flash) (l .eeprom) (l .answers) (l .n) (l .at) (l .to) (l .left) (l .inv) (c .before .before .before .before .before .before .before .before .before .before .before .before .before .before .before .before .pre .1))
+    let some = c .before .before .before .before .before .before .before .before .before .before .loop-test .taken in
+    let long : length (l .answers) ≡ length (a .answers .now) =
+    handing-long (a .frames .now) (a .count) (a .flash .now) (a .eeprom .now) (a .answers .now) (a .node) (l .flash) (l .eeprom)
+    (l .answers)
+    (l .n) (l .at) (l .to) (l .left) (l .inv) (start .pre .1) in
+    let fits : l .to + 14 ≤ length (l .answers) = omega (arith, l .inv .there, some, start .pre .1, long) in
+    fits
 
+-- the byte of the next frame, and of the next answer, are numbers of 64 bits: they lie within what is lent
 add-at : tie.Need-add-at Inv-loop μ-loop
-add-at c = omega (arith, c .before .before .before .before .before .before .before .before .before .before .before .before .before .before .before .loop .inv .here)
+add-at c =
+    let start = c .before .before .before .before .before .before .before .before .before .before .before .before .before .before .before
+    .before .before .before .before .before in
+    let l = c .before .before .before .before .before .before .before .before .before .before .before .before .before .before .before
+    .loop in
+    let fits : Fits w64 (l .at + 12) = omega (arith, l .inv .here, start .pre .0, start .good .1 .0) in
+    fits
 
 add-to : tie.Need-add-to Inv-loop μ-loop
-add-to c = omega (arith, c .before .before .before .before .before .before .before .before .before .before .before .before .before .before .before .loop .inv .there, c .before .before .before .before .before .before .before .before .before .before .before .before .before .before .before .before .before .before .before .before .pre .1)
+add-to c =
+    let start = c .before .before .before .before .before .before .before .before .before .before .before .before .before .before .before
+    .before .before .before .before .before in
+    let l = c .before .before .before .before .before .before .before .before .before .before .before .before .before .before .before
+    .loop in
+    let fits : Fits w64 (l .to + 14) = omega (arith, l .inv .there, start .pre .1, start .good .1 .1 .1 .1 .1 .0) in
+    fits
 
 sub-left : tie.Need-sub-left Inv-loop μ-loop
 sub-left c = search needs
@@ -58,12 +84,19 @@ loop-less c = search needs
 
 loop-again : tie.Need-loop-again Inv-loop μ-loop
 loop-again c =
-    let a = c .before .before .before .before .before .before .before .before .before .before .before .before .before .before .before .before .before .before .before .before .args in
-    let l = c .before .before .before .before .before .before .before .before .before .before .before .before .before .before .before .loop in
+    let a = c .before .before .before .before .before .before .before .before .before .before .before .before .before .before .before
+    .before .before .before .before .before .args in
+    let l = c .before .before .before .before .before .before .before .before .before .before .before .before .before .before .before
+    .loop in
+    let some = c .before .before .before .before .before .before .before .before .before .before .before .before .before .before
+    .loop-test .taken in
     let f = c .before .before .before .before .before .before .before .before .before .before .can-frame in
-    handing-next (a .frames .now) (a .count) (a .flash .now) (a .eeprom .now) (a .answers .now) (a .node) (l .flash) (l .eeprom) (l .answers) (l .n) (l .at) (l .to) (l .left) (l .inv)
-    (omega (arith, c .before .before .before .before .before .before .before .before .before .before .before .before .before .before .loop-test .taken)) (f .result) (f .last .1 .1 .0) (f .last .1 .1 .1 .0) _ (c .before .before .before .before .telling .result)
-    (simp add-sub-cancel-left at (f .ensures)) (f .kept .1 .1 .0) (f .kept .1 .1 .1 .0) (c .before .before .before .before .telling .ensures) (search needs) (c .before .before .before .put .ensures)
+    let t = c .before .before .before .before .telling in
+    handing-next (a .frames .now) (a .count) (a .flash .now) (a .eeprom .now) (a .answers .now) (a .node) (l .flash) (l .eeprom)
+    (l .answers)
+    (l .n) (l .at) (l .to) (l .left) (l .inv) (omega (arith, some)) (f .result) (f .last .1 .1 .0) (f .last .1 .1 .1 .0) _ (t .result)
+    (simp add-sub-cancel-left at (f .ensures)) (f .kept .1 .1 .0) (f .kept .1 .1 .1 .0) (t .ensures) (search needs)
+    (c .before .before .before .put .ensures)
 
 same-length : tie.Need-same-length Inv-loop μ-loop
 same-length c = c .before .loop .inv .sameFlash
@@ -73,15 +106,19 @@ same-length-2 c = c .before .loop .inv .sameEeprom
 
 same-length-3 : tie.Need-same-length-3 Inv-loop μ-loop
 same-length-3 c =
-    let a = c .before .before .before .before .before .before .args in
+    let start = c .before .before .before .before .before .before in
+    let a = start .args in
     let l = c .before .loop in
-    handing-long (a .frames .now) (a .count) (a .flash .now) (a .eeprom .now) (a .answers .now) (a .node) (l .flash) (l .eeprom) (l .answers) (l .n) (l .at) (l .to) (l .left) (l .inv) (c .before .before .before .before .before .before .pre .1)
+    handing-long (a .frames .now) (a .count) (a .flash .now) (a .eeprom .now) (a .answers .now) (a .node) (l .flash) (l .eeprom)
+    (l .answers)
+    (l .n) (l .at) (l .to) (l .left) (l .inv) (start .pre .1)
 
 returns : tie.Need-returns Inv-loop μ-loop
 returns c =
     let a = c .before .before .before .before .before .before .args in
     let l = c .before .loop in
-    handing-end (a .frames .now) (a .count) (a .flash .now) (a .eeprom .now) (a .answers .now) (a .node) (l .flash) (l .eeprom) (l .answers) (l .n) (l .at) (l .to) (l .left) (l .inv) (omega arith)
+    handing-end (a .frames .now) (a .count) (a .flash .now) (a .eeprom .now) (a .answers .now) (a .node) (l .flash) (l .eeprom) (l .answers)
+    (l .n) (l .at) (l .to) (l .left) (l .inv) (omega arith)
 
 pub hand-over-spec : {M : Type 1} → statement M
 hand-over-spec =

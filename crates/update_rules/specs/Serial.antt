@@ -11,21 +11,22 @@ use Rattle.node_rules.specs.declared.Pin.the-variants.{CanAndUart}
 use Rattle.node_rules.specs.declared.Node.{Node}
 use Rattle.node_rules.specs.declared.UartAnswer.{UartAnswer}
 use Rattle.node_rules.specs.Record.{heldOf}
-use Rattle.node_rules.specs.Uart.{UartStep, uartStep}
+use Rattle.node_rules.specs.Uart.{UartStep}
+use Rattle.node_rules.specs.Runs.{State, state, endOf, behindByte, bytesIn}
 use Rattle.recipe.specs.Frames.{joined}
-use Rattle.update_deliver.specs.Delivery.{Delivery, behind}
+use Rattle.update_rules.specs.Delivery.{Delivery, delivery}
 
 -- what is told of the answer to a byte: the number, how many replies, and the 15 bytes of the first (0 where there is none)
 abbrev pub toldOnUart : UartAnswer → List ℕ
 toldOnUart a = a .number ∷ a .count ∷ take 15 (a .replies)
 
-abbrev pub followedOnUart : UartStep → (Node → List ℕ → List ℕ → Delivery) → Delivery
-followedOnUart s others = behind (toldOnUart (s .answer) ∷ []) (others (s .answer .node) (s .flash) (s .eeprom))
+-- all that UART steps leave, behind what stood before them
+abbrev pub deliveryOnUart : State → List UartStep → Delivery
+deliveryOnUart before steps = delivery (map (λ (s : UartStep). toldOnUart (s .answer)) steps) (endOf behindByte before steps)
 
 -- bytes handed to a node one by one
 unfoldable pub fed : List ℕ → Node → List ℕ → List ℕ → Delivery
-fed [] n flash eeprom = record { answers = []; node = n; flash = flash; eeprom = eeprom }
-fed (b ∷ bs) n flash eeprom = followedOnUart (uartStep n b flash eeprom) (fed bs)
+fed bytes n flash eeprom = deliveryOnUart (state n flash eeprom) (bytesIn bytes (state n flash eeprom))
 
 -- wrapped frames, one behind the other
 abbrev pub wrappedAll : List (List ℕ) → List ℕ
@@ -49,7 +50,12 @@ onSerial d = record { answers = serially (d .answers); node = d .node; flash = d
 
 -- "on an open port with no frame half received", "both memories of full size": pin CAN and UART, nothing held
 pub record OpenPort (n : Node) (flash eeprom : List ℕ) : Type 0 where
-  pub bothPorts : n .pin ≡ CanAndUart
+  pub bothPorts : n .choices .pin ≡ CanAndUart
   pub noneHeld : heldOf n ≡ []
   pub flashFull : length flash ≡ flashCells
   pub eepromFull : length eeprom ≡ eepromCells
+
+-- each told answer has number 0
+abbrev pub AllZero : List (List ℕ) → Type 0
+AllZero [] = Unit {0}
+AllZero (t ∷ ts) = (getD t 0 0 ≡ 0) × AllZero ts

@@ -12,7 +12,7 @@ use Rattle.base.specs.Parts.{part}
 use Rattle.recipe.specs.Items.{Item, block, row, Recipe}
 use Rattle.recipe.specs.Frames.{leaveFrame, itemFrames, itemsFrames, framesOf, itemCount, itemsCount, frameCount}
 use Rattle.recipe.proofs.Framing.{items-count, items-append, item-count, block-erases-data, block-writes-data}
-use Rattle.update.specs.Mirror.{mirrored, silent, answersOf}
+use Rattle.update_rules.specs.Mirror.{mirrored, silent, answersOf}
 
 module _ (r : Recipe) where
   abbrev most : List (List ℕ)

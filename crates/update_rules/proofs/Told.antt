@@ -4,7 +4,7 @@
 use mathlib.Core.Path.{_≡_, refl}
 use lib.ListN.{getD, take, drop}
 use Rattle.node_rules.specs.declared.Answer.{Answer}
-use Rattle.update_deliver.specs.Delivery.{told}
+use Rattle.update_rules.specs.Delivery.{told}
 
 -- byte 0 is the number
 pub told-number : (a : Answer) → getD (told a) 0 0 ≡ a .number

@@ -1,4 +1,4 @@
--- What follows from answer three, as people ask for it: which cells stay, what BOOTFL ends as, which byte a cell ends with, what each answer
+-- What follows from demand 3, as people ask for it: which cells stay, what BOOTFL ends as, which byte a cell ends with, what each answer
 -- shows, and what a restart then finds.
 -- Assumes nothing.
 use mathlib.Core.Path.{_≡_, _∙_, refl, ap}
@@ -8,26 +8,27 @@ use Prim.Native.Nat.{ℕ, _+_, _*_, _<_}
 use native.Mathlib.Omega.{arith}
 use lib.ListN.{length, getD, replicate}
 use lib.Seq.{getD-set-other}
-use borrow.Author.Tests.{eq-eqb}
 use Rattle.base.specs.Parts.{part}
 use Rattle.base.proofs.Patched.{inside-patch}
 use Rattle.memory_address.specs.Places.{flashCells, eepromCells, eepromCell, bootfl}
 use Rattle.memory_sum.specs.Sum.{starts}
 use Rattle.node_rules.specs.declared.Mode.the-variants.{Normal, Waiting}
 use Rattle.node_rules.specs.declared.Node.{Node}
-use Rattle.node_rules.specs.declared.Pin.{Pin}
+use Rattle.node_rules.specs.declared.Choices.{Choices}
 use Rattle.node_rules.specs.Record.{withMode, tidied}
+use Rattle.node_rules.specs.declared.Restarted.{Restarted}
 use Rattle.node_rules.specs.Restart.{restartStep}
+use Rattle.node_rules.proofs.Restarting.{restart-normal}
 use Rattle.recipe.specs.Items.{Item, block, row, Recipe, Legal, LegalItem, LegalItems}
 use Rattle.recipe.specs.Frames.{framesOf, itemsCount, frameCount}
-use Rattle.recipe.specs.Plain.{Memories, plainItem, plainItems, plainly}
+use Rattle.recipe.specs.Plain.{Memories, plainItem, plainItems, plainly, OutsideFlash, OutsideEeprom, Each}
 use Rattle.recipe.proofs.Inside.{block-inside, row-inside}
-use Rattle.recipe.proofs.Plainly.{Each, OutsideFlash, OutsideEeprom, plain-block, plain-row, plain-item-sizes, plain-items-sizes, flash-unchanged, eeprom-unchanged, plain-sizes, plain-flash-unchanged, plain-eeprom-unchanged, bootfl-zero}
-use Rattle.update_deliver.specs.Delivery.{Delivery, delivered}
-use Rattle.update.specs.Mirror.{mirrored, answersOf}
-use Rattle.update.proofs.Mirroring.{answers-many, answers-last, answers-mirror, shows, erase-shown, write-shown, row-shown}
-use Rattle.update.specs.Updated.{Ready, updated}
-use Rattle.update.proofs.AnswerThree.{answer-three}
+use Rattle.recipe.proofs.Plainly.{plain-block, plain-row, plain-item-sizes, plain-items-sizes, flash-unchanged, eeprom-unchanged, plain-sizes, plain-flash-unchanged, plain-eeprom-unchanged, bootfl-zero}
+use Rattle.update_rules.specs.Delivery.{Delivery, delivered}
+use Rattle.update_rules.specs.Mirror.{mirrored, answersOf}
+use Rattle.update_rules.proofs.Mirroring.{answers-many, answers-last, answers-mirror, shows, erase-shown, write-shown, row-shown}
+use Rattle.update_rules.specs.Updated.{Ready, updated}
+use Rattle.update_rules.proofs.DemandThree.{demand-three}
 
 -- ---- of the plain reading alone: the last item that names a cell
 
@@ -80,7 +81,7 @@ module _ (r : Recipe) (n : Node) (m : Memories) (legal : Legal r) (ready : Ready
   whole = delivered (framesOf r) n (m .flash) (m .eeprom)
 
   is-updated : whole ≡ updated r n m
-  is-updated = answer-three r n m legal ready l k
+  is-updated = demand-three r n m legal ready l k
 
   -- both memories equal the plain reading over what was there
   pub flash-as-read : whole .flash ≡ plainly r m .flash
@@ -160,12 +161,12 @@ module _ (r : Recipe) (n : Node) (m : Memories) (legal : Legal r) (ready : Ready
 
   -- ---- a restart afterwards, with a passing self-test: normal mode, firmware started exactly if the image's sums agree
 
-  pub then-normal : (pin : Pin) → let after = restartStep (whole .node) pin true (whole .flash) (whole .eeprom) in
+  pub then-normal : (choices : Choices)
+      → let after = restartStep (whole .node) choices true (whole .flash) (whole .eeprom) in
       (after .number ≡ 0) × (after .node .mode ≡ Normal (starts (plainly r m .flash)))
-  unfolding restartStep
-  then-normal pin =
+  then-normal choices =
       let sizes = plain-sizes r m in
-      let f : length (plainly r m .flash) ≡ 65536 = sizes .0 ∙ l in
-      let e : length (plainly r m .eeprom) ≡ 1024 = sizes .1 ∙ k in
-      let z = bootfl-zero r m k in
-      rw is-updated (simp (eq-eqb _ 65536 f, eq-eqb _ 1024 e), simp (eq-eqb _ 65536 f, eq-eqb _ 1024 e, z))
+      let zero = bootfl-zero r m k in
+      let normal = restart-normal (withMode (tidied n) Waiting) choices (plainly r m .flash) (plainly r m .eeprom) (sizes .0 ∙ l)
+      (sizes .1 ∙ k) (λ e. omega (arith, zero, e)) in
+      rw is-updated (ap (λ (x : Restarted). x .number) normal, ap (λ (x : Restarted). x .node .mode) normal)

@@ -1,0 +1,11 @@
+pub mod Told
+pub mod Deliveries
+pub mod Rows
+pub mod Items
+pub mod DemandThree
+pub mod Mirroring
+pub mod Corollaries
+pub mod Prefixes
+pub mod Interrupted
+pub mod Serially
+pub mod Witnesses

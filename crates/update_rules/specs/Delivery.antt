@@ -1,0 +1,53 @@
+-- A delivery: frames handed to a node one by one, each as a CAN frame, with nothing else in between.
+use Prim.Native.Nat.{ℕ}
+use mathlib.Core.Path.{_≡_}
+use mathlib.Core.List.{List, [], _∷_, _++_, map}
+use lib.ListN.{length, take, drop}
+use Rattle.node_rules.specs.declared.Node.{Node}
+use Rattle.node_rules.specs.declared.Answer.{Answer}
+use Rattle.node_rules.specs.Step.{Step}
+use Rattle.node_rules.specs.Runs.{State, state, endOf, behindFrame, framesIn}
+
+-- what is told of an answer, 14 bytes: the number, how many replies, and the 12 bytes of the first (0 where there is none)
+abbrev pub told : Answer → List ℕ
+told a = a .number ∷ a .count ∷ take 12 (a .replies)
+
+-- all that a delivery leaves: what was told of each answer, in the frames' order, the node, and the two memories
+pub record Delivery : Type 0 where
+  pub answers : List (List ℕ)
+  pub node : Node
+  pub flash : List ℕ
+  pub eeprom : List ℕ
+
+abbrev pub delivery : List (List ℕ) → State → Delivery
+delivery answers s = record { answers = answers; node = s .node; flash = s .flash; eeprom = s .eeprom }
+
+-- what stands behind the last of some frames
+abbrev pub behindFrames : List (List ℕ) → State → State
+behindFrames frames s = endOf behindFrame s (framesIn frames s)
+
+-- "Deliver the translated frames in order"
+unfoldable pub delivered : List (List ℕ) → Node → List ℕ → List ℕ → Delivery
+delivered frames n flash eeprom =
+    delivery (map (λ (s : Step). told (s .answer)) (framesIn frames (state n flash eeprom))) (behindFrames frames (state n flash eeprom))
+
+-- THE RELATION: frames handed to what stands before give these told answers, and leave what stands after
+abbrev pub Delivers : List (List ℕ) → State → List (List ℕ) → State → Type 0
+Delivers frames before answers after = delivered frames (before .node) (before .flash) (before .eeprom) ≡ delivery answers after
+
+-- a delivery with answers before its own
+abbrev pub behind : List (List ℕ) → Delivery → Delivery
+behind answers d = record { answers = answers ++ d .answers; node = d .node; flash = d .flash; eeprom = d .eeprom }
+
+-- a delivery taken apart: what stands between the first frames and the others
+pub record Parted (first others : List (List ℕ)) (before : State) (answers : List (List ℕ)) (after : State) : Type 0 where
+  pub between : State
+  pub firstly : Delivers first before (take (length first) answers) between
+  pub then : Delivers others between (drop (length first) answers) after
+
+-- what no delivery changes: the plate with the own numbers and the fixed bytes, what was chosen, and the memories' lengths
+pub record SameNode (before after : State) : Type 0 where
+  pub samePlate : after .node .plate ≡ before .node .plate
+  pub sameChoices : after .node .choices ≡ before .node .choices
+  pub flashLength : length (after .flash) ≡ length (before .flash)
+  pub eepromLength : length (after .eeprom) ≡ length (before .eeprom)

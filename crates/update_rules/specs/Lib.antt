@@ -1,0 +1,4 @@
+pub mod Delivery
+pub mod Mirror
+pub mod Updated
+pub mod Serial
