@@ -16,4 +16,5 @@ pub mod Restarting
 pub mod Running
 pub mod Agreement
 pub mod Witnesses
+pub mod AgreementWitness
 pub mod Reached
