@@ -35,7 +35,8 @@ unstopped = 0xAA ∷ asks ++ (0xF9 ∷ [])
 
 module _ (F E : List ℕ) (fl : length F ≡ 65536) (el : length E ≡ 1024) where
   -- S3 byte by byte: fourteen times 10, and then a step whose one reply is S4
-  pub agreement-met : bytesIn S3 (state normal F E) ≡ collected (tidied normal) [] unstopped F E ++ (viaUart (canStep normal asks F E) ∷ [])
+  pub agreement-met : bytesIn S3 (state normal F E)
+      ≡ collected (tidied normal) [] unstopped F E ++ (viaUart (canStep normal asks F E) ∷ [])
   unfolding nodeIn tidied heldIn wrappedOf S3 asks
   agreement-met = agreement normal F E fl el refl refl refl asks refl
 
