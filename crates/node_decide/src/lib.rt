@@ -1,5 +1,4 @@
 // What a frame comes to: the outcome table's 1 and 3 to 9, one after the other, and else what it asks. No memory is read.
-mod asking;
 mod request;
 
 ghost use mathlib.Core.Path.{_≡_};
@@ -21,12 +20,12 @@ fn accepted(k: Kind, n: Node, frame: &[u8]) -> Effect
     let addressing = k.addressing;
     let asks = k.request;
     if !request::handled_here(handled, mode) {
-        return asking::refuse(6);
+        return node_request::refuse(6);
     }
     if !request::is_for(addressing, plate, frame) {
-        return asking::refuse(7);
+        return node_request::refuse(7);
     }
-    asking::asked_by(asks, mode, frame)
+    node_request::asked_by(asks, mode, frame)
 }
 
 // What a frame comes to at a tidied node, over memories that are full (both of their size) or not: the refusal of the first outcome that
@@ -36,19 +35,19 @@ pub fn decide(n: Node, full: bool, frame: &[u8]) -> Effect
 {
     let mode = n.mode;
     if !full {
-        return asking::refuse(1);
+        return node_request::refuse(1);
     }
     if node_frame::is_deaf(mode) {
-        return asking::refuse(3);
+        return node_request::refuse(3);
     }
     if request::misshapen(frame) {
-        return asking::refuse(4);
+        return node_request::refuse(4);
     }
     if request::is_response(frame) {
-        return asking::refuse(5);
+        return node_request::refuse(5);
     }
     match node_table::look_up(node_frame::type_of(frame)) {
         Found::Handled(k) => accepted(k, n, frame),
-        Found::Unhandled => asking::refuse(6),
+        Found::Unhandled => node_request::refuse(6),
     }
 }

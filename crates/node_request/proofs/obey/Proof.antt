@@ -1,8 +1,8 @@
--- `node_decide::asking::obey` meets its contract: each arm knows what is staged.
+-- `node_request::obey` meets its contract: each arm knows what is staged.
 -- Assumes nothing.
 use borrow.Author.Needs.{needs}
-use Rattle.node_decide.proofs.asking.obey.Statement.{statement}
-use Rattle.node_decide.proofs.asking.obey.Tie as tie
+use Rattle.node_request.proofs.obey.Statement.{statement}
+use Rattle.node_request.proofs.obey.Tie as tie
 
 enum-told : tie.Need-enum-told
 enum-told c = search needs

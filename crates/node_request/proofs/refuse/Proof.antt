@@ -1,8 +1,8 @@
--- `node_decide::asking::refuse` meets its contract: the test is that of "Afterwards".
+-- `node_request::refuse` meets its contract: the test is that of "Afterwards".
 -- Assumes nothing.
 use borrow.Author.Tests.{eq-eqb, ne-eqb}
-use Rattle.node_decide.proofs.asking.refuse.Statement.{statement}
-use Rattle.node_decide.proofs.asking.refuse.Tie as tie
+use Rattle.node_request.proofs.refuse.Statement.{statement}
+use Rattle.node_request.proofs.refuse.Tie as tie
 
 returns : tie.Need-returns
 returns c = simp (eq-eqb _ _ (c .if1 .taken))

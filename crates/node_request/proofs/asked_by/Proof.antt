@@ -1,8 +1,8 @@
--- `node_decide::asking::asked_by` meets its contract: each arm knows what the type asks.
+-- `node_request::asked_by` meets its contract: each arm knows what the type asks.
 -- Assumes nothing.
 use borrow.Author.Needs.{needs}
-use Rattle.node_decide.proofs.asking.asked_by.Statement.{statement}
-use Rattle.node_decide.proofs.asking.asked_by.Tie as tie
+use Rattle.node_request.proofs.asked_by.Statement.{statement}
+use Rattle.node_request.proofs.asked_by.Tie as tie
 
 enum-told : tie.Need-enum-told
 enum-told c = search needs

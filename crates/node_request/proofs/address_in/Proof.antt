@@ -1,8 +1,8 @@
--- `node_decide::asking::address_in` meets its contract: the three bytes have the places that `addressIn` gives them.
+-- `node_request::address_in` meets its contract: the three bytes have the places that `addressIn` gives them.
 -- Assumes nothing.
 use borrow.Author.Needs.{needs}
-use Rattle.node_decide.proofs.asking.address_in.Statement.{statement}
-use Rattle.node_decide.proofs.asking.address_in.Tie as tie
+use Rattle.node_request.proofs.address_in.Statement.{statement}
+use Rattle.node_request.proofs.address_in.Tie as tie
 
 byte-at-requires : tie.Need-byte-at-requires
 byte-at-requires c κs = search needs

@@ -1,9 +1,9 @@
--- `node_decide::asking::command_at` meets its contract: each arm knows the memory, each test the command.
+-- `node_request::command_at` meets its contract: each arm knows the memory, each test the command.
 -- Assumes nothing.
 use borrow.Author.Tests.{eq-eqb, ne-eqb}
 use borrow.Author.Needs.{needs}
-use Rattle.node_decide.proofs.asking.command_at.Statement.{statement}
-use Rattle.node_decide.proofs.asking.command_at.Tie as tie
+use Rattle.node_request.proofs.command_at.Statement.{statement}
+use Rattle.node_request.proofs.command_at.Tie as tie
 
 enum-known-a : tie.Need-enum-known-a
 enum-known-a c = search needs

@@ -1,8 +1,8 @@
--- `node_decide::asking::stage` meets its contract: the rule's answer says whether the command is staged.
+-- `node_request::stage` meets its contract: the rule's answer says whether the command is staged.
 -- Assumes nothing.
 use borrow.Author.Needs.{needs}
-use Rattle.node_decide.proofs.asking.stage.Statement.{statement}
-use Rattle.node_decide.proofs.asking.stage.Tie as tie
+use Rattle.node_request.proofs.stage.Statement.{statement}
+use Rattle.node_request.proofs.stage.Tie as tie
 
 address-in-requires : tie.Need-address-in-requires
 address-in-requires c κs = search needs
