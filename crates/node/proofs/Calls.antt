@@ -19,21 +19,21 @@ use Rattle.node_rules.specs.Record.{plain, freshNode}
 use Rattle.node_rules.specs.Restart.{restartStep}
 use Rattle.node_rules.specs.Step.{after, canStep}
 use Rattle.node_rules.specs.Uart.{uartAfter, uartStep}
-use Rattle.node.proofs.fresh as fresh
-use Rattle.node.proofs.fresh.Kinds as fresh-kinds
-use Rattle.node.proofs.fresh.Reads as fresh-reads
-use Rattle.node.proofs.restart as restart
-use Rattle.node.proofs.restart.Kinds as restart-kinds
-use Rattle.node.proofs.restart.Reads as restart-reads
-use Rattle.node.proofs.restart_with as restart-with
-use Rattle.node.proofs.restart_with.Kinds as restart-with-kinds
-use Rattle.node.proofs.restart_with.Reads as restart-with-reads
-use Rattle.node.proofs.can_frame as can-frame
-use Rattle.node.proofs.can_frame.Kinds as can-frame-kinds
-use Rattle.node.proofs.can_frame.Reads as can-frame-reads
-use Rattle.node.proofs.uart_byte as uart-byte
-use Rattle.node.proofs.uart_byte.Kinds as uart-byte-kinds
-use Rattle.node.proofs.uart_byte.Reads as uart-byte-reads
+use Rattle.node_restart.proofs.fresh as fresh
+use Rattle.node_restart.proofs.fresh.Kinds as fresh-kinds
+use Rattle.node_restart.proofs.fresh.Reads as fresh-reads
+use Rattle.node_restart.proofs.restart as restart
+use Rattle.node_restart.proofs.restart.Kinds as restart-kinds
+use Rattle.node_restart.proofs.restart.Reads as restart-reads
+use Rattle.node_restart.proofs.restart_with as restart-with
+use Rattle.node_restart.proofs.restart_with.Kinds as restart-with-kinds
+use Rattle.node_restart.proofs.restart_with.Reads as restart-with-reads
+use Rattle.node_can.proofs.can_frame as can-frame
+use Rattle.node_can.proofs.can_frame.Kinds as can-frame-kinds
+use Rattle.node_can.proofs.can_frame.Reads as can-frame-reads
+use Rattle.node_uart.proofs.uart_byte as uart-byte
+use Rattle.node_uart.proofs.uart_byte.Kinds as uart-byte-kinds
+use Rattle.node_uart.proofs.uart_byte.Reads as uart-byte-reads
 
 -- `fresh(six)` may give n
 pub data Fresh : List ℕ → Node → Type 1 where

@@ -1,8 +1,11 @@
-// What more than one crate asks of a frame and of a mode.
+// What more than one crate asks of a frame, of a mode and of the memories.
 ghost use mathlib.Core.Path.{_≡_};
 ghost use Prim.Native.Nat.{_<_};
 ghost use Rattle.frame_can.specs.Frame.{typeOf};
+ghost use Rattle.memory_address.specs.Places.{full};
 ghost use Rattle.node_rules.specs.Outcomes.{isDeaf};
+use memory_address::EEPROM_CELLS;
+use memory_address::FLASH_CELLS;
 use node_rules::Mode;
 
 // The 12 bits of type; a byte that the frame does not have counts as 0.
@@ -24,4 +27,14 @@ pub fn is_deaf(m: Mode) -> bool
         Mode::Error => true,
         Mode::Waiting => true,
     }
+}
+
+// Outcome 1 is where this fails: whether both memories have their full size.
+pub fn full(flash: &[u8], eeprom: &[u8]) -> bool
+    ensures { λ r. ⌜ r ≡ full (now (flash .entry)) (now (eeprom .entry)) ⌝ }
+{
+    if flash.len() == FLASH_CELLS {
+        return eeprom.len() == EEPROM_CELLS;
+    }
+    false
 }

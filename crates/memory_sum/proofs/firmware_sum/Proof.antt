@@ -4,8 +4,8 @@ use borrow.Author.Tests.{eq-eqb, ne-eqb}
 use mathlib.Core.Path.{_≡_, _∙_}
 use native.Mathlib.Omega.{arith}
 use lib.ListN.{length}
-use Rattle.base.proofs.Patched.{part-length}
 use Rattle.memory_sum.specs.Sum.{firmwareSum}
+use Rattle.memory_sum.proofs.Laws.{bytes-most}
 use borrow.Author.Needs.{needs}
 use Rattle.memory_sum.proofs.firmware_sum.Statement.{statement}
 use Rattle.memory_sum.proofs.firmware_sum.Tie as tie
@@ -36,10 +36,8 @@ returns-2 : tie.Need-returns-2
 unfolding firmwareSum
 returns-2 c =
     let m = c .before .before .before .before .before .before .args .flash .now in
-    let l : length m ≡ 65536 = omega arith in (
-      c .sum-of .ensures .0 ∙ simp (eq-eqb (length m) 65536 l),
-      omega (arith, c .sum-of .ensures .1, part-length m 0x001003 28669 (omega arith)),
-    )
+    let l = c .before .before .before .before .if1 .left in
+    (c .sum-of .ensures .0 ∙ simp (eq-eqb (length m) 65536 l), bytes-most m (c .sum-of .result) l (c .sum-of .ensures .1))
 
 pub firmware-sum-spec : {M : Type 1} → statement M
 firmware-sum-spec =

@@ -1,4 +1,4 @@
--- `node::can_frame` meets its contract: the record is tidied where it lies, what is decided is done to the memories and answered over
+-- `node_can::can_frame` meets its contract: the record is tidied where it lies, what is decided is done to the memories and answered over
 -- them; each arm knows the next mode.
 -- Assumes nothing.
 use mathlib.Core.Path.{_≡_, _∙_, sym}
@@ -6,10 +6,10 @@ use mathlib.Core.Logic.{⊎-elim}
 use borrow.Author.Tests.{not-true, not-false}
 use Rattle.node_rules.specs.Record.{tidied}
 use Rattle.node_record.proofs.Tidied.{kept-tidied, lost-tidied}
-use Rattle.node.proofs.Stepping.{stepped}
+use Rattle.node_can.proofs.Stepping.{stepped}
 use borrow.Author.Needs.{needs}
-use Rattle.node.proofs.can_frame.Statement.{statement}
-use Rattle.node.proofs.can_frame.Tie as tie
+use Rattle.node_can.proofs.can_frame.Statement.{statement}
+use Rattle.node_can.proofs.can_frame.Tie as tie
 
 -- the record that goes on is the tidied one
 tidied-here : (c : tie.Joined1) → c .if1 .n ≡ tidied (c .before .before .before .before .before .before .args .node)

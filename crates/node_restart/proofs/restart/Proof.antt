@@ -1,8 +1,8 @@
--- `node::restart` meets its contract: it is `restart_with` with the plain choices.
+-- `node_restart::restart` meets its contract: it is `restart_with` with the plain choices.
 -- Assumes nothing.
 use borrow.Author.Needs.{needs}
-use Rattle.node.proofs.restart.Statement.{statement}
-use Rattle.node.proofs.restart.Tie as tie
+use Rattle.node_restart.proofs.restart.Statement.{statement}
+use Rattle.node_restart.proofs.restart.Tie as tie
 
 plain-requires : tie.Need-plain-requires
 plain-requires c κs = search needs

@@ -1,9 +1,9 @@
--- `node::restart_with` meets its contract: over full memories the record after a restart, else 1.
+-- `node_restart::restart_with` meets its contract: over full memories the record after a restart, else 1.
 -- Assumes nothing.
 use Rattle.node_rules.specs.Restart.{restartStep}
 use borrow.Author.Needs.{needs}
-use Rattle.node.proofs.restart_with.Statement.{statement}
-use Rattle.node.proofs.restart_with.Tie as tie
+use Rattle.node_restart.proofs.restart_with.Statement.{statement}
+use Rattle.node_restart.proofs.restart_with.Tie as tie
 
 full-requires : tie.Need-full-requires
 full-requires c κs = search needs

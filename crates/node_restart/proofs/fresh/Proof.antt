@@ -1,9 +1,9 @@
--- `node::fresh` meets its contract: the record is written out.
+-- `node_restart::fresh` meets its contract: the record is written out.
 -- Assumes nothing.
 use Rattle.node_rules.specs.Record.{freshNode}
 use borrow.Author.Needs.{needs}
-use Rattle.node.proofs.fresh.Statement.{statement}
-use Rattle.node.proofs.fresh.Tie as tie
+use Rattle.node_restart.proofs.fresh.Statement.{statement}
+use Rattle.node_restart.proofs.fresh.Tie as tie
 
 plain-requires : tie.Need-plain-requires
 plain-requires c κs = search needs

@@ -1,8 +1,8 @@
--- `node::full` meets its contract: the two tests are those of the definition.
+-- `node_frame::full` meets its contract: the two tests are those of the definition.
 -- Assumes nothing.
 use borrow.Author.Tests.{eq-eqb, ne-eqb}
-use Rattle.node.proofs.full.Statement.{statement}
-use Rattle.node.proofs.full.Tie as tie
+use Rattle.node_frame.proofs.full.Statement.{statement}
+use Rattle.node_frame.proofs.full.Tie as tie
 
 returns : tie.Need-returns
 returns c = simp (eq-eqb _ 65536 (c .if1 .taken))

@@ -1,4 +1,4 @@
--- `node::uart_byte` meets its contract: the record is tidied where it lies, and each return is one law of Listening.antt.
+-- `node_uart::uart_byte` meets its contract: the record is tidied where it lies, and each return is one law of Listening.antt.
 -- Assumes nothing.
 use mathlib.Core.Path.{_≡_, _∙_, sym}
 use mathlib.Core.Bool.{true, false}
@@ -10,10 +10,10 @@ use Rattle.node_rules.specs.Record.{tidied}
 use Rattle.node_rules.specs.Outcomes.{isDeaf}
 use Rattle.node_rules.specs.Uart.{isClosed}
 use Rattle.node_record.proofs.Tidied.{kept-tidied, lost-tidied}
-use Rattle.node.proofs.Listening.{room-of, not-full, closed, deaf, skipped, held, bad, whole}
+use Rattle.node_uart.proofs.Listening.{room-of, not-full, closed, deaf, skipped, held, bad, whole}
 use borrow.Author.Needs.{needs}
-use Rattle.node.proofs.uart_byte.Statement.{statement}
-use Rattle.node.proofs.uart_byte.Tie as tie
+use Rattle.node_uart.proofs.uart_byte.Statement.{statement}
+use Rattle.node_uart.proofs.uart_byte.Tie as tie
 
 -- the record that goes on is the tidied one
 tidied-here : (c : tie.Joined1) → c .if1 .n ≡ tidied (c .before .before .before .before .before .args .node)
