@@ -21,9 +21,9 @@ NOTHING, READ, WRITE, ERASE = range(4)
 RECORD_BY_VALUE, LEAF = 1.9, 1.2
 # The names of the calls: proved, in the second program, in the peer.
 NAMES = {
-    'can_frame': ('node::can_frame', 'main::node::Node::can_frame', 'peer::peer::Node::can_frame'),
-    'uart_byte': ('node::uart_byte', 'main::node::Node::uart_byte', 'peer::peer::Node::uart_byte'),
-    'restart': ('node::restart', 'main::node::Node::restart', 'peer::peer::Node::restart'),
+    'can_frame': ('node_can::can_frame', 'main::node::Node::can_frame', 'peer::peer::Node::can_frame'),
+    'uart_byte': ('node_uart::uart_byte', 'main::node::Node::uart_byte', 'peer::peer::Node::uart_byte'),
+    'restart': ('node_restart::restart', 'main::node::Node::restart', 'peer::peer::Node::restart'),
     'wrap': ('frame_uart::wrap', 'main::frames::wrap', 'peer::peer::wrap'),
     'unwrap': ('frame_uart::unwrap', 'main::frames::unwrap', 'peer::peer::unwrap'),
     'to_can': ('frame_can::to_can', 'main::frames::frame_to_identifier', 'peer::peer::to_can'),

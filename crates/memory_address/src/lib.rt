@@ -86,12 +86,15 @@ fn multiple_in(step: u32, low: u32, high: u32, a: u32) -> bool
     a % step == 0
 }
 
-// A row that may be read or written.
+// A row that may be read or written: a number up to the last row of FLASH can only be FLASH's, one above it only EEPROM's.
 fn row_of(a: u32) -> Ruled
     ensures { λ r. ⌜ r ≡ rowOf a ⌝ }
 {
-    if multiple_in(8, RIM, LAST_FLASH_ROW, a) {
-        return Ruled::Legal(Address::Flash(FlashAddress(a)));
+    if a <= LAST_FLASH_ROW {
+        if multiple_in(8, RIM, LAST_FLASH_ROW, a) {
+            return Ruled::Legal(Address::Flash(FlashAddress(a)));
+        }
+        return Ruled::Illegal;
     }
     if multiple_in(8, EEPROM_FIRST, LAST_EEPROM_ROW, a) {
         return Ruled::Legal(Address::Eeprom(EepromPlace(a)));
