@@ -19,9 +19,6 @@ use Rattle.node_record.proofs.tidying.tidy_receiver.Reads as tidy-recei
 use Rattle.node_record.proofs.tidying.is_tidy.{signature as is-tidy-signature}
 use Rattle.node_record.proofs.tidying.is_tidy.Kinds as is-tidy-kinds
 use Rattle.node_record.proofs.tidying.is_tidy.Reads as is-tidy-reads
-use Rattle.node_record.proofs.restarting.restarted.{signature as restarted-signature}
-use Rattle.node_record.proofs.restarting.restarted.Kinds as restarted-kinds
-use Rattle.node_record.proofs.restarting.restarted.Reads as restarted-reads
 
 pub with-mode-tight : (κs : Lfts 0) (a : ArgsD with-mode-signature κs) (r r′ : ResD with-mode-signature κs)
     (s s′ : AtExit (endedOf 0 with-mode-kinds.ps with-mode-kinds.r) κs)
@@ -47,8 +44,3 @@ pub is-tidy-tight : (κs : Lfts 0) (a : ArgsD is-tidy-signature κs) (r r′ : R
     (s s′ : AtExit (endedOf 0 is-tidy-kinds.ps is-tidy-kinds.r) κs)
     → is-tidy-reads.Post κs a r s → is-tidy-reads.Post κs a r′ s′ → r ≡ r′
 is-tidy-tight κs a r r′ s s′ p q = p ∙ sym q
-
-pub restarted-tight : (κs : Lfts 2) (a : ArgsD restarted-signature κs) (r r′ : ResD restarted-signature κs)
-    (s s′ : AtExit (endedOf 2 restarted-kinds.ps restarted-kinds.r) κs)
-    → restarted-reads.Post κs a r s → restarted-reads.Post κs a r′ s′ → r ≡ r′
-restarted-tight κs a r r′ s s′ p q = p ∙ sym q

@@ -1,8 +1,6 @@
-// The node's record: tidied, in another mode, and after a restart. No memory is changed.
-mod restarting;
+// The node's record: tidied, and in another mode.
 mod tidying;
 
-pub use restarting::restarted;
 pub use tidying::is_tidy;
 pub use tidying::none_held;
 pub use tidying::tidy_receiver;

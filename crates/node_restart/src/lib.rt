@@ -1,4 +1,6 @@
 // A fresh node, and restart. A restart takes any record, which it tidies, and lent memories of any length; it asks nothing of its caller.
+mod restarting;
+
 ghost use mathlib.Core.Path.{_≡_};
 ghost use Rattle.node_rules.specs.Record.{plain, freshNode};
 ghost use Rattle.node_rules.specs.Restart.{restartStep};
@@ -48,7 +50,7 @@ pub fn restart_with(
     ensures { λ r. ⌜ r ≡ restartStep node choices passed (now (flash .entry)) (now (eeprom .entry)) ⌝ }
 {
     if node_frame::full(flash, eeprom) {
-        let n = node_record::restarted(node, choices, passed, flash, eeprom);
+        let n = restarting::restarted(node, choices, passed, flash, eeprom);
         return Restarted { number: 0, node: n };
     }
     let n = node_record::tidy(node);

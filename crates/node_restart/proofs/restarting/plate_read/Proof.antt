@@ -1,8 +1,8 @@
--- `node_record::restarting::plate_read` meets its contract: the plate is written out.
+-- `node_restart::restarting::plate_read` meets its contract: the plate is written out.
 -- Assumes nothing.
 use borrow.Author.Needs.{needs}
-use Rattle.node_record.proofs.restarting.plate_read.Statement.{statement}
-use Rattle.node_record.proofs.restarting.plate_read.Tie as tie
+use Rattle.node_restart.proofs.restarting.plate_read.Statement.{statement}
+use Rattle.node_restart.proofs.restarting.plate_read.Tie as tie
 
 sub-module-at : tie.Need-sub-module-at
 sub-module-at c = search needs

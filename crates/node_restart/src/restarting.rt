@@ -1,5 +1,4 @@
 // The record after a restart: choices and verdict are taken, held bytes emptied, own numbers copied from EEPROM.
-use super::tidying;
 ghost use mathlib.Core.Path.{_≡_};
 ghost use Rattle.node_rules.specs.Restart.{modeReached, plateRead, restartedIn};
 use memory_address::BOOTFL;
@@ -49,7 +48,7 @@ pub fn restarted(n: Node, choices: Choices, passed: bool, flash: &[u8], eeprom: 
         r ≡ restartedIn (modeReached passed (now (flash .entry)) (now (eeprom .entry))) n choices (now (eeprom .entry)) ⌝ }
 {
     let plate = plate_read(n.plate, eeprom);
-    let receiver = tidying::none_held();
+    let receiver = node_record::none_held();
     let mode = mode_reached(passed, flash, eeprom);
     Node {
         choices,

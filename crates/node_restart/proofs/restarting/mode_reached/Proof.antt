@@ -1,9 +1,9 @@
--- `node_record::restarting::mode_reached` meets its contract: the tests are those of the restart rule.
+-- `node_restart::restarting::mode_reached` meets its contract: the tests are those of the restart rule.
 -- Assumes nothing.
 use borrow.Author.Tests.{eq-eqb, ne-eqb}
 use borrow.Author.Needs.{needs}
-use Rattle.node_record.proofs.restarting.mode_reached.Statement.{statement}
-use Rattle.node_record.proofs.restarting.mode_reached.Tie as tie
+use Rattle.node_restart.proofs.restarting.mode_reached.Statement.{statement}
+use Rattle.node_restart.proofs.restarting.mode_reached.Tie as tie
 
 sub-at : tie.Need-sub-at
 sub-at c = search needs

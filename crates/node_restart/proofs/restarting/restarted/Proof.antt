@@ -1,8 +1,8 @@
--- `node_record::restarting::restarted` meets its contract: the record is written out.
+-- `node_restart::restarting::restarted` meets its contract: the record is written out.
 -- Assumes nothing.
 use borrow.Author.Needs.{needs}
-use Rattle.node_record.proofs.restarting.restarted.Statement.{statement}
-use Rattle.node_record.proofs.restarting.restarted.Tie as tie
+use Rattle.node_restart.proofs.restarting.restarted.Statement.{statement}
+use Rattle.node_restart.proofs.restarting.restarted.Tie as tie
 
 plate-read-requires : tie.Need-plate-read-requires
 plate-read-requires c κs = search needs
