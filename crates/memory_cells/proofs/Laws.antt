@@ -17,10 +17,10 @@ use Rattle.base.proofs.Patched.{part-length, length-patch, elsewhere-patch}
 use Rattle.memory_address.specs.Places.{flashCells, eepromCells, eepromCell}
 use Rattle.memory_address.specs.Rule.{protected, legalFlash, legalEeprom}
 use Rattle.memory_address.proofs.Laws.{cellsOf, zero-numbered, flash-within, eeprom-within, spares-protected, rim-protected}
-use Rattle.memory_cells.specs.Leaves.{combined, flashCellsAfter, eepromCellsAfter, erasedCells}
+use Rattle.memory_leaves.specs.Leaves.{combined, flashCellsAfter, eepromCellsAfter, erasedCells}
 use Rattle.memory_cells.specs.Memory.{ifDone, flashNumber, eepromNumber, flashWritten, flashErased, eepromWritten}
-use Rattle.memory_cells.proofs.Combined.{bytes-combined}
-use Rattle.memory_cells.proofs.Lengths.{length-flash-after, length-eeprom-after, length-erased}
+use Rattle.memory_leaves.proofs.Combined.{bytes-combined}
+use Rattle.memory_leaves.proofs.Lengths.{length-flash-after, length-eeprom-after, length-erased}
 
 -- ---- one argument: n cells at b are replaced by as many, where the number is 0, and lie within
 

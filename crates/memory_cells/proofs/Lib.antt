@@ -1,4 +1,2 @@
-pub mod Combined
-pub mod Lengths
 pub mod Laws
 pub mod Tight

@@ -7,7 +7,7 @@ use lib.ListN.{length}
 use Rattle.base.specs.Parts.{part, patch}
 use Rattle.memory_address.specs.Places.{flashCells, eepromCells, eepromCell}
 use Rattle.memory_address.specs.Rule.{legalFlash, legalEeprom, numbered}
-use Rattle.memory_cells.specs.Leaves.{flashCellsAfter, eepromCellsAfter, erasedCells}
+use Rattle.memory_leaves.specs.Leaves.{flashCellsAfter, eepromCellsAfter, erasedCells}
 
 -- the number that comes with a command
 abbrev pub flashNumber : List ℕ → ℕ → ℕ → ℕ

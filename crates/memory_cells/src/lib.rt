@@ -1,10 +1,8 @@
 // What changes cells: the leaves, which touch only the cells lent to them, and the functions over a whole memory and an address,
 // which lend them the row or the block in its middle.
-mod leaves;
-
-pub use leaves::erase_cells;
-pub use leaves::write_eeprom_cells;
-pub use leaves::write_flash_cells;
+pub use memory_leaves::erase_cells;
+pub use memory_leaves::write_eeprom_cells;
+pub use memory_leaves::write_flash_cells;
 ghost use mathlib.Core.Path.{_≡_};
 ghost use Rattle.memory_cells.specs.Memory.{flashNumber, eepromNumber, flashWritten, flashErased, eepromWritten};
 use memory_address::EEPROM_CELLS;

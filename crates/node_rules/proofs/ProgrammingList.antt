@@ -22,7 +22,7 @@ use Rattle.memory_address.specs.declared.Address.the-variants.{Flash, Eeprom}
 use Rattle.memory_address.specs.declared.Ruled.{Ruled}
 use Rattle.memory_address.specs.declared.Ruled.the-variants.{Legal, Illegal}
 use Rattle.memory_address.proofs.Laws.{flash-ruled, eeprom-ruled, flash-within, eeprom-within}
-use Rattle.memory_cells.specs.Leaves.{combined}
+use Rattle.memory_leaves.specs.Leaves.{combined}
 use Rattle.memory_cells.specs.Memory.{flashWritten}
 use Rattle.memory_cells.proofs.Laws.{written-done, erased-done, eeprom-written-done}
 use Rattle.frame_can.specs.Frame.{typeOf}

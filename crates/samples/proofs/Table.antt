@@ -5,7 +5,7 @@ use mathlib.Core.Bool.{true}
 use Rattle.memory_address.specs.Rule.{ruled}
 use Rattle.frame_can.specs.Frame.{identifierOf, headOf}
 use Rattle.frame_can.specs.Wrapping.{wrappedOf, rightlyWrapped}
-use Rattle.memory_cells.specs.Leaves.{flashCellsAfter}
+use Rattle.memory_leaves.specs.Leaves.{flashCellsAfter}
 use Rattle.memory_sum.specs.Sum.{firmwareSum, storedSumOf, starts}
 use Rattle.recipe.specs.Faults.{rulesAt, faultAt}
 use Rattle.recipe.specs.Reading.{readFrom, reading, recipeOf}

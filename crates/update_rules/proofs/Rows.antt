@@ -16,10 +16,10 @@ use Rattle.memory_address.specs.declared.Address.{Address}
 use Rattle.memory_address.specs.declared.Address.the-variants.{Flash}
 use Rattle.memory_address.specs.declared.Ruled.the-variants.{Legal}
 use Rattle.memory_address.proofs.Laws.{flash-ruled, flash-within}
-use Rattle.memory_cells.specs.Leaves.{combined}
+use Rattle.memory_leaves.specs.Leaves.{combined}
 use Rattle.memory_cells.specs.Memory.{flashWritten}
 use Rattle.memory_cells.proofs.Laws.{written-done}
-use Rattle.memory_cells.proofs.Combined.{over-blank}
+use Rattle.memory_leaves.proofs.Combined.{over-blank}
 use Rattle.node_rules.specs.declared.Staged.{Staged}
 use Rattle.node_rules.specs.declared.Node.{Node}
 use Rattle.node_rules.specs.Record.{legalStaged}

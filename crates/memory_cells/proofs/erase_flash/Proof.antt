@@ -11,9 +11,9 @@ use Rattle.base.specs.Parts.{part}
 use Rattle.base.proofs.Patched.{part-length, put-back}
 use Rattle.memory_address.specs.Rule.{legalFlash}
 use Rattle.memory_address.proofs.Laws.{flash-within}
-use Rattle.memory_cells.specs.Leaves.{erasedCells}
+use Rattle.memory_leaves.specs.Leaves.{erasedCells}
 use Rattle.memory_cells.specs.Memory.{flashErased}
-use Rattle.memory_cells.proofs.Lengths.{length-erased}
+use Rattle.memory_leaves.proofs.Lengths.{length-erased}
 use borrow.Author.Needs.{needs}
 use Rattle.memory_cells.proofs.erase_flash.Statement.{statement}
 use Rattle.memory_cells.proofs.erase_flash.Tie as tie

@@ -12,9 +12,9 @@ use Rattle.base.proofs.Patched.{part-length, put-back}
 use Rattle.memory_address.specs.Rule.{legalEeprom}
 use Rattle.memory_address.specs.Places.{eepromCell}
 use Rattle.memory_address.proofs.Laws.{eeprom-within}
-use Rattle.memory_cells.specs.Leaves.{eepromCellsAfter}
+use Rattle.memory_leaves.specs.Leaves.{eepromCellsAfter}
 use Rattle.memory_cells.specs.Memory.{eepromWritten}
-use Rattle.memory_cells.proofs.Lengths.{length-eeprom-after}
+use Rattle.memory_leaves.proofs.Lengths.{length-eeprom-after}
 use borrow.Author.Needs.{needs}
 use Rattle.memory_cells.proofs.write_eeprom.Statement.{statement}
 use Rattle.memory_cells.proofs.write_eeprom.Tie as tie

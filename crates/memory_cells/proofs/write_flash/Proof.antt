@@ -11,9 +11,9 @@ use Rattle.base.specs.Parts.{part}
 use Rattle.base.proofs.Patched.{part-length, put-back}
 use Rattle.memory_address.specs.Rule.{legalFlash}
 use Rattle.memory_address.proofs.Laws.{flash-within}
-use Rattle.memory_cells.specs.Leaves.{flashCellsAfter}
+use Rattle.memory_leaves.specs.Leaves.{flashCellsAfter}
 use Rattle.memory_cells.specs.Memory.{flashWritten}
-use Rattle.memory_cells.proofs.Lengths.{length-flash-after}
+use Rattle.memory_leaves.proofs.Lengths.{length-flash-after}
 use borrow.Author.Needs.{needs}
 use Rattle.memory_cells.proofs.write_flash.Statement.{statement}
 use Rattle.memory_cells.proofs.write_flash.Tie as tie

@@ -7,7 +7,7 @@ use native.Mathlib.Nat.{le-of-suc-le-suc, not-suc-le-zero, le-trans, mod-eq-of-l
 use lib.Bits.{bitAnd, and-le-l, and-shr, and-mod, and-comm, and-mask}
 use lib.ListN.{length, getD, replicate}
 use Rattle.base.proofs.Bytes.{Bytes}
-use Rattle.memory_cells.specs.Leaves.{combined}
+use Rattle.memory_leaves.specs.Leaves.{combined}
 
 pub length-combined : (xs ys : List ℕ) → length (combined xs ys) ≡ length xs
 length-combined [] ys = refl

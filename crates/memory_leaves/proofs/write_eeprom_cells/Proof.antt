@@ -5,10 +5,10 @@ use Prim.Native.Nat.{_≤_, _-_}
 use borrow.Author.Tests.{eq-eqb, ne-eqb}
 use lib.ListN.{length, length-set}
 use Rattle.base.proofs.Stored.{mix, stored, mix-all}
-use Rattle.memory_cells.specs.Leaves.{eepromCellsAfter}
+use Rattle.memory_leaves.specs.Leaves.{eepromCellsAfter}
 use native.Mathlib.Omega.{arith}
-use Rattle.memory_cells.proofs.leaves.write_eeprom_cells.Statement.{statement}
-use Rattle.memory_cells.proofs.leaves.write_eeprom_cells.Tie as tie
+use Rattle.memory_leaves.proofs.write_eeprom_cells.Statement.{statement}
+use Rattle.memory_leaves.proofs.write_eeprom_cells.Tie as tie
 
 abbrev Inv-loop : tie.InvT-loop
 Inv-loop cells₀ new i₀ cells i =

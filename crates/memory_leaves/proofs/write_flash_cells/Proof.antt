@@ -6,11 +6,11 @@ use borrow.Author.Tests.{eq-eqb, ne-eqb}
 use lib.Bits.{bitAnd}
 use lib.ListN.{length, length-set, getD}
 use Rattle.base.proofs.Stored.{mix, stored, mix-all, mix-next}
-use Rattle.memory_cells.specs.Leaves.{combined, flashCellsAfter}
-use Rattle.memory_cells.proofs.Combined.{length-combined, getD-combined}
+use Rattle.memory_leaves.specs.Leaves.{combined, flashCellsAfter}
+use Rattle.memory_leaves.proofs.Combined.{length-combined, getD-combined}
 use native.Mathlib.Omega.{arith}
-use Rattle.memory_cells.proofs.leaves.write_flash_cells.Statement.{statement}
-use Rattle.memory_cells.proofs.leaves.write_flash_cells.Tie as tie
+use Rattle.memory_leaves.proofs.write_flash_cells.Statement.{statement}
+use Rattle.memory_leaves.proofs.write_flash_cells.Tie as tie
 
 abbrev Inv-loop : tie.InvT-loop
 Inv-loop cells₀ new i₀ cells i =

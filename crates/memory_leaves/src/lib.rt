@@ -1,6 +1,6 @@
 // The leaves. Each touches only the cells lent to it, and only where their number, and that of the new bytes, is right.
 ghost use mathlib.Core.Path.{_≡_};
-ghost use Rattle.memory_cells.specs.Leaves.{flashCellsAfter, eepromCellsAfter, erasedCells};
+ghost use Rattle.memory_leaves.specs.Leaves.{flashCellsAfter, eepromCellsAfter, erasedCells};
 
 // Each of eight cells keeps the bits that it and the new byte both have. Other lengths leave the cells alone.
 pub fn write_flash_cells(cells: &mut [u8], new: &[u8])

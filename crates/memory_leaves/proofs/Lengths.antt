@@ -8,8 +8,8 @@ use lib.Dec.{eqb}
 use lib.ListN.{length, length-replicate}
 use borrow.Author.Tests.{eqb-true}
 use Rattle.base.proofs.Choice.{by-cond, both-true}
-use Rattle.memory_cells.specs.Leaves.{flashCellsAfter, eepromCellsAfter, erasedCells}
-use Rattle.memory_cells.proofs.Combined.{length-combined}
+use Rattle.memory_leaves.specs.Leaves.{flashCellsAfter, eepromCellsAfter, erasedCells}
+use Rattle.memory_leaves.proofs.Combined.{length-combined}
 
 pub length-flash-after : (cells new : List ℕ) → length (flashCellsAfter cells new) ≡ length cells
 unfolding flashCellsAfter
