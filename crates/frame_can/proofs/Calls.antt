@@ -10,16 +10,16 @@ use contract.Lifetimes.{Lfts}
 use borrow.Fn.World.{ArgsD, ResD}
 use denote.Triple.Clauses.{AtExit}
 use borrow.Fn.Kinds.{endedOf}
-use Rattle.frame_can.specs.declared.Identified.{Identified}
-use Rattle.frame_can.specs.Frame.{dataOf, hapcanOf, identifierOf, legalIdentifier, upperFlags}
-use Rattle.frame_can.specs.Numbers.{toHapcanNumber, toCanNumber, identifiedOf}
-use Rattle.frame_can.proofs.Done.{to-hapcan-done, done-to-hapcan, to-can-done, done-to-can}
-use Rattle.frame_can.proofs.to_hapcan as to-hapcan
-use Rattle.frame_can.proofs.to_hapcan.Kinds as to-hapcan-kinds
-use Rattle.frame_can.proofs.to_hapcan.Reads as to-hapcan-reads
-use Rattle.frame_can.proofs.to_can as to-can
-use Rattle.frame_can.proofs.to_can.Kinds as to-can-kinds
-use Rattle.frame_can.proofs.to_can.Reads as to-can-reads
+use Rattle.frame_rules.specs.declared.Identified.{Identified}
+use Rattle.frame_rules.specs.Frame.{dataOf, hapcanOf, identifierOf, legalIdentifier, upperFlags}
+use Rattle.frame_rules.specs.Numbers.{toHapcanNumber, toCanNumber, identifiedOf}
+use Rattle.frame_rules.proofs.Done.{to-hapcan-done, done-to-hapcan, to-can-done, done-to-can}
+use Rattle.frame_to_hapcan.proofs.to_hapcan as to-hapcan
+use Rattle.frame_to_hapcan.proofs.to_hapcan.Kinds as to-hapcan-kinds
+use Rattle.frame_to_hapcan.proofs.to_hapcan.Reads as to-hapcan-reads
+use Rattle.frame_to_can.proofs.to_can as to-can
+use Rattle.frame_to_can.proofs.to_can.Kinds as to-can-kinds
+use Rattle.frame_to_can.proofs.to_can.Reads as to-can-reads
 
 -- `to_hapcan(i, d, held)` may give n and leave f
 pub data ToHapcan : ℕ → List ℕ → List ℕ → ℕ → List ℕ → Type 1 where

@@ -1,6 +1,2 @@
-pub mod Tight
-pub mod Done
-pub mod Fields
-pub mod Wrapped
 pub mod Calls
 pub mod RoundTrips

@@ -7,10 +7,10 @@ use Prim.Native.Nat.{ℕ}
 use native.Mathlib.Omega.{arith}
 use lib.ListN.{length, length-drop}
 use Rattle.base.proofs.Bytes.{Bytes}
-use Rattle.frame_can.specs.declared.Identified.{Identified}
-use Rattle.frame_can.specs.Frame.{dataOf, identifierOf, legalIdentifier, upperFlags}
-use Rattle.frame_can.proofs.Fields.{hapcan-length, hapcan-data, hapcan-no-upper-flags, hapcan-identifier, hapcan-injective}
-use Rattle.frame_can.proofs.Fields.{identifier-legal, identifier-hapcan, identifier-injective}
+use Rattle.frame_rules.specs.declared.Identified.{Identified}
+use Rattle.frame_rules.specs.Frame.{dataOf, identifierOf, legalIdentifier, upperFlags}
+use Rattle.frame_rules.proofs.Fields.{hapcan-length, hapcan-data, hapcan-no-upper-flags, hapcan-identifier, hapcan-injective}
+use Rattle.frame_rules.proofs.Fields.{identifier-legal, identifier-hapcan, identifier-injective}
 use Rattle.frame_can.proofs.Calls.{ToHapcan, ToCan, to-hapcan-gave, to-can-gave, to-hapcan-gives, to-can-gives}
 
 -- CAN to HAPCAN to CAN: number 0, the same identifier and the same data

@@ -10,9 +10,9 @@ use contract.Lifetimes.{Lfts}
 use borrow.Fn.World.{ArgsD, ResD}
 use denote.Triple.Clauses.{AtExit}
 use borrow.Fn.Kinds.{endedOf}
-use Rattle.frame_can.specs.Wrapping.{innerOf, wrappedOf, rightlyWrapped}
-use Rattle.frame_can.specs.Numbers.{wrapNumber, unwrapNumber}
-use Rattle.frame_can.proofs.Done.{wrap-done, done-wrap, unwrap-done, done-unwrap}
+use Rattle.frame_rules.specs.Wrapping.{innerOf, wrappedOf, rightlyWrapped}
+use Rattle.frame_rules.specs.Numbers.{wrapNumber, unwrapNumber}
+use Rattle.frame_rules.proofs.Done.{wrap-done, done-wrap, unwrap-done, done-unwrap}
 use Rattle.frame_uart.proofs.wrap as wrap
 use Rattle.frame_uart.proofs.wrap.Kinds as wrap-kinds
 use Rattle.frame_uart.proofs.wrap.Reads as wrap-reads

@@ -1,13 +1,13 @@
 -- One call after another, each whatever its function's real contract allows (`Calls`): wrapping and unwrapping lose nothing, each way
--- round, and no two inputs share an outcome. The same of the definitions is in `Wrapped` of `frame_can`.
+-- round, and no two inputs share an outcome. The same of the definitions is in `Wrapped` of `frame_rules`.
 -- Assumes nothing.
 use mathlib.Core.Path.{_≡_, _∙_, sym, ap}
 use mathlib.Core.List.{List}
 use Prim.Native.Nat.{ℕ}
 use lib.ListN.{length}
-use Rattle.frame_can.specs.Wrapping.{innerOf, wrappedOf, rightlyWrapped}
-use Rattle.frame_can.proofs.Wrapped.{wrapped-length, wrapped-inner, wrapped-right, wrapped-injective}
-use Rattle.frame_can.proofs.Wrapped.{right-inner-length, right-wrapped, inner-injective}
+use Rattle.frame_rules.specs.Wrapping.{innerOf, wrappedOf, rightlyWrapped}
+use Rattle.frame_rules.proofs.Wrapped.{wrapped-length, wrapped-inner, wrapped-right, wrapped-injective}
+use Rattle.frame_rules.proofs.Wrapped.{right-inner-length, right-wrapped, inner-injective}
 use Rattle.frame_uart.proofs.Calls.{Wrap, Unwrap, wrap-gave, unwrap-gave, wrap-gives, unwrap-gives}
 
 -- a frame that is wrapped and unwrapped: number 0 and the same frame

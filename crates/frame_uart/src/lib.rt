@@ -6,8 +6,8 @@ mod wrapping;
 
 ghost use mathlib.Core.Path.{_≡_};
 ghost use lib.ListN.{length};
-ghost use Rattle.frame_can.specs.Wrapping.{innerOf, wrappedOf};
-ghost use Rattle.frame_can.specs.Numbers.{wrapNumber, unwrapNumber, outputAfter};
+ghost use Rattle.frame_rules.specs.Wrapping.{innerOf, wrappedOf};
+ghost use Rattle.frame_rules.specs.Numbers.{wrapNumber, unwrapNumber, outputAfter};
 
 // The 15 bytes of a frame on UART: 0xAA, the 12, their sum modulo 256, 0xA5. 4 for not 12 bytes; flags are not looked at.
 pub fn wrap(frame: &[u8], wrapped: &mut [u8]) -> u8

@@ -3,7 +3,7 @@ ghost use mathlib.Core.Path.{_≡_};
 ghost use Prim.Native.Nat.{_%_, _≤_};
 ghost use lib.ListN.{length};
 ghost use Rattle.base.specs.Parts.{listed, sumOf};
-ghost use Rattle.frame_can.specs.Wrapping.{rightlyWrapped};
+ghost use Rattle.frame_rules.specs.Wrapping.{rightlyWrapped};
 
 // The sum of the bytes, modulo 256.
 pub fn sum_of(bytes: &[u8]) -> u8

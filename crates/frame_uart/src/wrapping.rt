@@ -1,7 +1,7 @@
 // The checks of wrapping and unwrapping in document 01's order.
 use crate::slices;
 ghost use mathlib.Core.Path.{_≡_};
-ghost use Rattle.frame_can.specs.Numbers.{wrapNumber, unwrapNumber};
+ghost use Rattle.frame_rules.specs.Numbers.{wrapNumber, unwrapNumber};
 
 // The number of a wrapping.
 pub fn wrap_number(frame: &[u8], room: usize) -> u8

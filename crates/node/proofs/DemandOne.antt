@@ -9,7 +9,7 @@ use lib.ListN.{length, getD}
 use Rattle.memory_address.specs.Places.{full}
 use Rattle.memory_address.specs.Rule.{protected}
 use Rattle.memory_address.proofs.Laws.{rim-protected}
-use Rattle.frame_can.specs.Wrapping.{innerOf}
+use Rattle.frame_rules.specs.Wrapping.{innerOf}
 use Rattle.node_rules.specs.declared.Mode.the-variants.{Normal}
 use Rattle.node_rules.specs.declared.Pin.{Pin}
 use Rattle.node_rules.specs.declared.Choices.{Choices}

@@ -8,8 +8,8 @@ use mathlib.Core.List.{List, [], _∷_, _++_}
 use Prim.Native.Nat.{ℕ, _%_}
 use lib.ListN.{length}
 use Rattle.base.specs.Parts.{sumOf}
-use Rattle.frame_can.specs.Frame.{typeOf}
-use Rattle.frame_can.specs.Wrapping.{wrappedOf, innerOf}
+use Rattle.frame_rules.specs.Frame.{typeOf}
+use Rattle.frame_rules.specs.Wrapping.{wrappedOf, innerOf}
 use Rattle.node_rules.specs.declared.Pin.the-variants.{CanAndUart}
 use Rattle.node_rules.specs.declared.Mode.the-variants.{Normal}
 use Rattle.node_rules.specs.declared.Choices.{Choices}

@@ -2,7 +2,7 @@
 ghost use mathlib.Core.Path.{_≡_};
 ghost use mathlib.Core.Bool.{_&&_};
 ghost use lib.Dec.{eqb};
-ghost use Rattle.frame_can.specs.Frame.{moduleOf, groupOf};
+ghost use Rattle.frame_rules.specs.Frame.{moduleOf, groupOf};
 ghost use Rattle.node_rules.specs.Requests.{areOwn, isFor, isNormal, isProgramming, handledHere};
 ghost use Rattle.node_rules.specs.Outcomes.{misshapen, isResponse};
 use memory_address::Group;

@@ -1,7 +1,7 @@
 // What more than one crate asks of a frame, of a mode and of the memories.
 ghost use mathlib.Core.Path.{_≡_};
 ghost use Prim.Native.Nat.{_<_};
-ghost use Rattle.frame_can.specs.Frame.{typeOf};
+ghost use Rattle.frame_rules.specs.Frame.{typeOf};
 ghost use Rattle.memory_address.specs.Places.{full};
 ghost use Rattle.node_rules.specs.Outcomes.{isDeaf};
 use memory_address::EEPROM_CELLS;

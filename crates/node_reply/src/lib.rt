@@ -4,7 +4,7 @@ mod reading;
 
 ghost use mathlib.Core.Path.{_≡_};
 ghost use Prim.Native.Nat.{_<_};
-ghost use Rattle.frame_can.specs.Frame.{typeOf};
+ghost use Rattle.frame_rules.specs.Frame.{typeOf};
 ghost use Rattle.memory_address.specs.Places.{eepromCell};
 ghost use Rattle.node_rules.specs.Replies.{replyOf, hasStarted, firmwareReply, descriptionData, cellsAt, oneReply, twoReplies, replying};
 use memory_address::Address;

@@ -10,9 +10,9 @@ use lib.Seq.{take-at, drop-at}
 use borrow.Rule.Slice.PartMut.{putMid}
 use Rattle.base.specs.Parts.{part, listed}
 use Rattle.base.proofs.Listed.{listed-part}
-use Rattle.frame_can.specs.Wrapping.{wrappedOf}
-use Rattle.frame_can.specs.Numbers.{wrapNumber, outputAfter}
-use Rattle.frame_can.proofs.Done.{done-wrap}
+use Rattle.frame_rules.specs.Wrapping.{wrappedOf}
+use Rattle.frame_rules.specs.Numbers.{wrapNumber, outputAfter}
+use Rattle.frame_rules.proofs.Done.{done-wrap}
 
 -- what `wrap` leaves of 12 bytes in a room of 15
 pub filled : (f held left : List ℕ) (number : ℕ) → number ≡ wrapNumber f (length held)

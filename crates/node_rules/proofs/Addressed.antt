@@ -8,7 +8,7 @@ use Prim.Native.Nat.{ℕ}
 use lib.Dec.{eqb}
 use borrow.Author.Tests.{eqb-true}
 use Rattle.base.proofs.Choice.{both-true, either-true}
-use Rattle.frame_can.specs.Frame.{moduleOf, groupOf}
+use Rattle.frame_rules.specs.Frame.{moduleOf, groupOf}
 use Rattle.node_rules.specs.declared.Addressing.the-variants.{AsGroup, AsNode, AllZero, OwnNumbers}
 use Rattle.node_rules.specs.declared.Plate.{Plate}
 use Rattle.node_rules.specs.Requests.{D, isFor}

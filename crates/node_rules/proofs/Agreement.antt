@@ -14,9 +14,9 @@ use borrow.Author.Tests.{eq-eqb, ne-eqb, lt-ltb, le-ltb}
 use Rattle.base.specs.Parts.{sumOf}
 use Rattle.base.proofs.Choice.{cond-true, cond-false, cond-same}
 use Rattle.memory_address.specs.Places.{full}
-use Rattle.frame_can.specs.Frame.{typeOf}
-use Rattle.frame_can.specs.Wrapping.{wrappedOf, innerOf, rightlyWrapped}
-use Rattle.frame_can.proofs.Wrapped.{wrapped-length, wrapped-inner, wrapped-right, right-says}
+use Rattle.frame_rules.specs.Frame.{typeOf}
+use Rattle.frame_rules.specs.Wrapping.{wrappedOf, innerOf, rightlyWrapped}
+use Rattle.frame_rules.proofs.Wrapped.{wrapped-length, wrapped-inner, wrapped-right, right-says}
 use Rattle.node_rules.specs.declared.Pin.the-variants.{CanAndUart}
 use Rattle.node_rules.specs.declared.Found.{Found}
 use Rattle.node_rules.specs.declared.Found.the-variants.{Handled, Unhandled}

@@ -8,7 +8,7 @@ use mathlib.Core.Logic.{inr}
 use Prim.Native.Nat.{ℕ}
 use native.Mathlib.Omega.{arith}
 use lib.ListN.{length, replicate}
-use Rattle.frame_can.specs.Wrapping.{wrappedOf}
+use Rattle.frame_rules.specs.Wrapping.{wrappedOf}
 use Rattle.node_rules.specs.declared.Mode.the-variants.{Normal}
 use Rattle.node_rules.specs.declared.Node.{Node}
 use Rattle.node_rules.specs.Record.{holding, heldIn, tidied}

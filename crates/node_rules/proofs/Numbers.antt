@@ -5,7 +5,7 @@ use mathlib.Core.Path.{_≡_, ap}
 use mathlib.Core.List.{List}
 use Prim.Native.Nat.{ℕ}
 use Rattle.memory_address.specs.Places.{full}
-use Rattle.frame_can.specs.Wrapping.{innerOf}
+use Rattle.frame_rules.specs.Wrapping.{innerOf}
 use Rattle.node_rules.specs.declared.Node.{Node}
 use Rattle.node_rules.specs.declared.Effect.{Effect}
 use Rattle.node_rules.specs.Record.{heldOf, tidied}

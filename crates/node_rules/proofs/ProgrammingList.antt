@@ -25,7 +25,7 @@ use Rattle.memory_address.proofs.Laws.{flash-ruled, eeprom-ruled, flash-within,
 use Rattle.memory_leaves.specs.Leaves.{combined}
 use Rattle.memory_cells.specs.Memory.{flashWritten}
 use Rattle.memory_cells.proofs.Laws.{written-done, erased-done, eeprom-written-done}
-use Rattle.frame_can.specs.Frame.{typeOf}
+use Rattle.frame_rules.specs.Frame.{typeOf}
 use Rattle.node_rules.specs.declared.HandledIn.the-variants.{InProgramming}
 use Rattle.node_rules.specs.declared.Addressing.the-variants.{AllZero, OwnNumbers}
 use Rattle.node_rules.specs.declared.Request.the-variants.{LeaveProgramming, AddressFrame, DataFrame}

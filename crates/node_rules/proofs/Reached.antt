@@ -7,7 +7,7 @@ use Prim.Native.Nat.{ℕ, _%_}
 use lib.ListN.{replicate}
 use Rattle.memory_address.specs.Rule.{ruled}
 use Rattle.base.specs.Parts.{sumOf}
-use Rattle.frame_can.specs.Wrapping.{wrappedOf, rightlyWrapped}
+use Rattle.frame_rules.specs.Wrapping.{wrappedOf, rightlyWrapped}
 use Rattle.node_rules.specs.declared.Pin.{Pin}
 use Rattle.node_rules.specs.declared.Pin.the-variants.{CanOnly, CanAndUart}
 use Rattle.node_rules.specs.declared.Staged.the-variants.{Nothing}

@@ -12,7 +12,7 @@ use borrow.Author.Tests.{eq-eqb, ne-eqb}
 use Rattle.base.specs.Parts.{part, sumOf}
 use Rattle.base.proofs.Choice.{true-both}
 use Rattle.memory_sum.specs.Sum.{firmwareSum}
-use Rattle.frame_can.specs.Frame.{typeOf}
+use Rattle.frame_rules.specs.Frame.{typeOf}
 use Rattle.node_rules.specs.declared.HandledIn.the-variants.{InNormal}
 use Rattle.node_rules.specs.declared.Addressing.the-variants.{AsGroup, AsNode, AllZero, OwnNumbers}
 use Rattle.node_rules.specs.declared.Request.the-variants.{EnterProgramming, WaitForRestart, HardwareType, FirmwareType, Description, DeviceId}

@@ -10,7 +10,7 @@ use lib.ListN.{length}
 use borrow.Author.Tests.{eq-eqb}
 use Rattle.base.proofs.Choice.{true-both}
 use Rattle.memory_address.specs.Places.{full}
-use Rattle.frame_can.specs.Frame.{typeOf}
+use Rattle.frame_rules.specs.Frame.{typeOf}
 use Rattle.node_rules.specs.declared.HandledIn.{HandledIn}
 use Rattle.node_rules.specs.declared.HandledIn.the-variants.{InNormal, InProgramming}
 use Rattle.node_rules.specs.declared.Mode.{Mode}

@@ -12,8 +12,8 @@ use Rattle.memory_address.specs.Places.{full, eepromCell, bootfl}
 use Rattle.memory_address.specs.Rule.{protected}
 use Rattle.memory_address.specs.declared.Address.the-variants.{Flash, Eeprom}
 use Rattle.memory_cells.proofs.Laws.{written-length, written-protected, erased-length, erased-protected, eeprom-written-length}
-use Rattle.frame_can.specs.Frame.{typeOf}
-use Rattle.frame_can.specs.Wrapping.{innerOf}
+use Rattle.frame_rules.specs.Frame.{typeOf}
+use Rattle.frame_rules.specs.Wrapping.{innerOf}
 use Rattle.node_rules.specs.declared.Mode.{Mode}
 use Rattle.node_rules.specs.declared.Mode.the-variants.{Normal}
 use Rattle.node_rules.specs.declared.Request.{Request}

@@ -20,8 +20,8 @@ use Rattle.memory_address.specs.declared.Ruled.{Ruled}
 use Rattle.memory_address.specs.declared.Ruled.the-variants.{Legal, Illegal}
 use Rattle.memory_address.proofs.Laws.{Within, cellsOf, ruled-within, legal-command, no-eeprom-erase}
 use Rattle.memory_sum.specs.Sum.{starts}
-use Rattle.frame_can.specs.Frame.{typeOf}
-use Rattle.frame_can.specs.Wrapping.{innerOf}
+use Rattle.frame_rules.specs.Frame.{typeOf}
+use Rattle.frame_rules.specs.Wrapping.{innerOf}
 use Rattle.node_rules.specs.declared.Staged.{Staged}
 use Rattle.node_rules.specs.declared.Staged.the-variants.{Nothing, Read, Write, Erase}
 use Rattle.node_rules.specs.declared.Mode.{Mode}

@@ -6,7 +6,7 @@ use mathlib.Core.List.{List, []}
 use mathlib.Core.Logic.{_⊎_}
 use lib.ListN.{getD}
 use Rattle.memory_address.specs.Places.{eepromCell, bootfl}
-use Rattle.frame_can.specs.Frame.{typeOf, moduleOf, groupOf}
+use Rattle.frame_rules.specs.Frame.{typeOf, moduleOf, groupOf}
 use Rattle.node_rules.specs.declared.Addressing.the-variants.{AsGroup, AllZero}
 use Rattle.node_rules.specs.declared.Mode.the-variants.{Waiting}
 use Rattle.node_rules.specs.declared.Node.{Node}

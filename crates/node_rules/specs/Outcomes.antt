@@ -6,7 +6,7 @@ use mathlib.Core.List.{List, [], _∷_}
 use lib.Dec.{eqb}
 use lib.ListN.{length}
 use Rattle.memory_address.specs.Rule.{isLegal}
-use Rattle.frame_can.specs.Frame.{typeOf, flagOf, upperFlags}
+use Rattle.frame_rules.specs.Frame.{typeOf, flagOf, upperFlags}
 use Rattle.node_rules.specs.declared.Staged.{Staged}
 use Rattle.node_rules.specs.declared.Staged.the-variants.{Nothing, Read, Write, Erase}
 use Rattle.node_rules.specs.declared.Mode.{Mode}

@@ -5,7 +5,7 @@ use mathlib.Core.List.{List, [], _∷_, _++_}
 use lib.Dec.{eqb}
 use lib.ListN.{getD, replicate}
 use Rattle.base.specs.Parts.{listed}
-use Rattle.frame_can.specs.Frame.{typeOf}
+use Rattle.frame_rules.specs.Frame.{typeOf}
 use Rattle.memory_address.specs.Places.{eepromCell, description, atype, avers, fvers}
 use Rattle.memory_address.specs.declared.Address.{Address}
 use Rattle.memory_address.specs.declared.Address.the-variants.{Flash, Eeprom}

@@ -5,7 +5,7 @@ use mathlib.Core.List.{List, [], _∷_}
 use lib.Dec.{eqb}
 use lib.ListN.{getD}
 use Rattle.base.specs.Parts.{listed}
-use Rattle.frame_can.specs.Frame.{moduleOf, groupOf}
+use Rattle.frame_rules.specs.Frame.{moduleOf, groupOf}
 use Rattle.memory_address.specs.Rule.{ruled}
 use Rattle.memory_address.specs.declared.Module.{Module}
 use Rattle.memory_address.specs.declared.Group.{Group}

@@ -6,7 +6,7 @@ use lib.Dec.{eqb, leb, ltb}
 use lib.ListN.{length, replicate}
 use Rattle.base.specs.Parts.{listed}
 use Rattle.memory_address.specs.Places.{full}
-use Rattle.frame_can.specs.Wrapping.{wrappedOf, innerOf, rightlyWrapped}
+use Rattle.frame_rules.specs.Wrapping.{wrappedOf, innerOf, rightlyWrapped}
 use Rattle.node_rules.specs.declared.Pin.{Pin}
 use Rattle.node_rules.specs.declared.Pin.the-variants.{CanOnly, CanAndUart}
 use Rattle.node_rules.specs.declared.Choices.{Choices}

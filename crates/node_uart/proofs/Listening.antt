@@ -14,8 +14,8 @@ use lib.Seq.{set-at}
 use borrow.Author.Tests.{eq-eqb, ne-eqb, lt-ltb, le-ltb}
 use Rattle.base.proofs.Choice.{cond-true, cond-false}
 use Rattle.memory_address.specs.Places.{full}
-use Rattle.frame_can.specs.Wrapping.{innerOf, rightlyWrapped}
-use Rattle.frame_can.specs.Numbers.{unwrapNumber, outputAfter}
+use Rattle.frame_rules.specs.Wrapping.{innerOf, rightlyWrapped}
+use Rattle.frame_rules.specs.Numbers.{unwrapNumber, outputAfter}
 use Rattle.node_rules.specs.declared.Pin.{Pin}
 use Rattle.node_rules.specs.declared.Pin.the-variants.{CanOnly, CanAndUart}
 use Rattle.node_rules.specs.declared.Receiver.{Receiver}

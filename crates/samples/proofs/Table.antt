@@ -3,8 +3,8 @@
 use mathlib.Core.Path.{_≡_, refl}
 use mathlib.Core.Bool.{true}
 use Rattle.memory_address.specs.Rule.{ruled}
-use Rattle.frame_can.specs.Frame.{identifierOf, headOf}
-use Rattle.frame_can.specs.Wrapping.{wrappedOf, rightlyWrapped}
+use Rattle.frame_rules.specs.Frame.{identifierOf, headOf}
+use Rattle.frame_rules.specs.Wrapping.{wrappedOf, rightlyWrapped}
 use Rattle.memory_leaves.specs.Leaves.{flashCellsAfter}
 use Rattle.memory_sum.specs.Sum.{firmwareSum, storedSumOf, starts}
 use Rattle.recipe.specs.Faults.{rulesAt, faultAt}

@@ -5,7 +5,7 @@ use mathlib.Core.Bool.{true, false}
 use mathlib.Core.List.{List, [], _∷_, _++_}
 use lib.ListN.{take, replicate}
 use Rattle.memory_address.specs.Rule.{ruled, isLegal}
-use Rattle.frame_can.specs.Frame.{identifierOf, headOf}
+use Rattle.frame_rules.specs.Frame.{identifierOf, headOf}
 use Rattle.memory_leaves.specs.Leaves.{flashCellsAfter}
 use Rattle.memory_sum.specs.Sum.{firmwareSum, storedSumOf, starts}
 use Rattle.recipe.specs.declared.Translated.{Translated}

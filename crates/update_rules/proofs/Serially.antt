@@ -14,9 +14,9 @@ use Rattle.base.proofs.Choice.{by-cond}
 use Rattle.base.proofs.Listed.{listed-part}
 use Rattle.memory_address.specs.Places.{full}
 use Rattle.memory_address.specs.declared.Address.the-variants.{Flash, Eeprom}
-use Rattle.frame_can.specs.Frame.{typeOf}
-use Rattle.frame_can.specs.Wrapping.{wrappedOf}
-use Rattle.frame_can.proofs.Wrapped.{wrapped-length}
+use Rattle.frame_rules.specs.Frame.{typeOf}
+use Rattle.frame_rules.specs.Wrapping.{wrappedOf}
+use Rattle.frame_rules.proofs.Wrapped.{wrapped-length}
 use Rattle.node_rules.specs.declared.Node.{Node}
 use Rattle.node_rules.specs.declared.Answer.{Answer}
 use Rattle.node_rules.specs.declared.Reply.{Reply}

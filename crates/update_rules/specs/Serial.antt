@@ -5,7 +5,7 @@ use mathlib.Core.Bool.{cond}
 use mathlib.Core.List.{List, [], _∷_, _++_, map}
 use lib.Dec.{eqb}
 use lib.ListN.{length, getD, take, drop, replicate}
-use Rattle.frame_can.specs.Wrapping.{wrappedOf}
+use Rattle.frame_rules.specs.Wrapping.{wrappedOf}
 use Rattle.memory_address.specs.Places.{flashCells, eepromCells}
 use Rattle.node_rules.specs.declared.Pin.the-variants.{CanAndUart}
 use Rattle.node_rules.specs.declared.Node.{Node}

@@ -7,8 +7,8 @@ use lib.ListN.{length, replicate}
 use borrow.Author.Tests.{ne-eqb}
 use Rattle.base.proofs.Stored.{mix-all}
 use Rattle.base.proofs.Patched.{part-length}
-use Rattle.frame_can.specs.Wrapping.{innerOf, rightlyWrapped}
-use Rattle.frame_can.proofs.Done.{unwrap-done}
+use Rattle.frame_rules.specs.Wrapping.{innerOf, rightlyWrapped}
+use Rattle.frame_rules.proofs.Done.{unwrap-done}
 use borrow.Author.Needs.{needs}
 use Rattle.frame_uart.proofs.unwrap.Statement.{statement}
 use Rattle.frame_uart.proofs.unwrap.Tie as tie

@@ -9,8 +9,8 @@ use lib.Seq.{drop-set-add}
 use borrow.Author.Tests.{ne-eqb}
 use Rattle.base.proofs.Stored.{mix-all}
 use Rattle.base.proofs.Listed.{listed-all}
-use Rattle.frame_can.specs.Wrapping.{wrappedOf}
-use Rattle.frame_can.proofs.Done.{wrap-done}
+use Rattle.frame_rules.specs.Wrapping.{wrappedOf}
+use Rattle.frame_rules.proofs.Done.{wrap-done}
 use borrow.Author.Needs.{needs}
 use Rattle.frame_uart.proofs.wrap.Statement.{statement}
 use Rattle.frame_uart.proofs.wrap.Tie as tie

@@ -7,7 +7,7 @@ use lib.ListN.{length, length-take, length-append, replicate}
 use borrow.Author.Tests.{eq-eqb, ne-eqb}
 use Rattle.base.specs.Parts.{part}
 use Rattle.base.proofs.Patched.{part-length}
-use Rattle.frame_can.specs.Wrapping.{wrappedOf}
+use Rattle.frame_rules.specs.Wrapping.{wrappedOf}
 use Rattle.node_reply_uart.proofs.InPlace.{filled, first-in-place, both-in-place}
 use borrow.Author.Needs.{needs}
 use Rattle.node_reply_uart.proofs.wrapped_replies.Statement.{statement}

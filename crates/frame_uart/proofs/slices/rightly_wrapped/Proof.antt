@@ -4,7 +4,7 @@
 use mathlib.Core.Path.{_≡_, _∙_, sym}
 use mathlib.Core.Bool.{Bool, true, false, _&&_}
 use borrow.Author.Tests.{eq-eqb, ne-eqb}
-use Rattle.frame_can.specs.Wrapping.{rightlyWrapped}
+use Rattle.frame_rules.specs.Wrapping.{rightlyWrapped}
 use borrow.Author.Needs.{needs}
 use Rattle.frame_uart.proofs.slices.rightly_wrapped.Statement.{statement}
 use Rattle.frame_uart.proofs.slices.rightly_wrapped.Tie as tie

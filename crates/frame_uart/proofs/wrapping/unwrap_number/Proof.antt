@@ -2,7 +2,7 @@
 -- Assumes nothing.
 use mathlib.Core.Path.{_∙_, sym}
 use borrow.Author.Tests.{eq-eqb, ne-eqb, not-true, not-false}
-use Rattle.frame_can.specs.Numbers.{unwrapNumber}
+use Rattle.frame_rules.specs.Numbers.{unwrapNumber}
 use borrow.Author.Needs.{needs}
 use Rattle.frame_uart.proofs.wrapping.unwrap_number.Statement.{statement}
 use Rattle.frame_uart.proofs.wrapping.unwrap_number.Tie as tie

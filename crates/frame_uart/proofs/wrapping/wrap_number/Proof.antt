@@ -1,7 +1,7 @@
 -- `frame_uart::wrapping::wrap_number` meets its contract: each return is the case that its tests led to.
 -- Assumes nothing.
 use borrow.Author.Tests.{eq-eqb, ne-eqb}
-use Rattle.frame_can.specs.Numbers.{wrapNumber}
+use Rattle.frame_rules.specs.Numbers.{wrapNumber}
 use Rattle.frame_uart.proofs.wrapping.wrap_number.Statement.{statement}
 use Rattle.frame_uart.proofs.wrapping.wrap_number.Tie as tie
 
