@@ -13,12 +13,12 @@ use borrow.Fn.Kinds.{endedOf}
 use Rattle.frame_rules.specs.Wrapping.{innerOf, wrappedOf, rightlyWrapped}
 use Rattle.frame_rules.specs.Numbers.{wrapNumber, unwrapNumber}
 use Rattle.frame_rules.proofs.Done.{wrap-done, done-wrap, unwrap-done, done-unwrap}
-use Rattle.frame_uart.proofs.wrap as wrap
-use Rattle.frame_uart.proofs.wrap.Kinds as wrap-kinds
-use Rattle.frame_uart.proofs.wrap.Reads as wrap-reads
-use Rattle.frame_uart.proofs.unwrap as unwrap
-use Rattle.frame_uart.proofs.unwrap.Kinds as unwrap-kinds
-use Rattle.frame_uart.proofs.unwrap.Reads as unwrap-reads
+use Rattle.frame_wrap.proofs.wrap as wrap
+use Rattle.frame_wrap.proofs.wrap.Kinds as wrap-kinds
+use Rattle.frame_wrap.proofs.wrap.Reads as wrap-reads
+use Rattle.frame_unwrap.proofs.unwrap as unwrap
+use Rattle.frame_unwrap.proofs.unwrap.Kinds as unwrap-kinds
+use Rattle.frame_unwrap.proofs.unwrap.Reads as unwrap-reads
 
 -- `wrap(f, held)` may give n and leave w
 pub data Wrap : List ℕ → List ℕ → ℕ → List ℕ → Type 1 where
