@@ -58,7 +58,7 @@ pub fn hand_over(
     let mut to: usize = 0;
     let mut left = count;
     while 0 < left {
-        let a = node::can_frame(n, &frames[at..at + 12], flash, eeprom);
+        let a = node_can::can_frame(n, &frames[at..at + 12], flash, eeprom);
         put(answers, to, telling(a));
         n = a.node;
         at += 12;
