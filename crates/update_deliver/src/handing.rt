@@ -3,33 +3,8 @@ ghost use mathlib.Core.Path.{_≡_};
 ghost use Prim.Native.Nat.{_+_, _*_, _≤_};
 ghost use lib.ListN.{length};
 ghost use Rattle.base.specs.Parts.{patch};
-ghost use Rattle.update_rules.specs.Delivery.{told};
 ghost use Rattle.update_deliver.specs.Delivering.{handed, handedOver};
-use node_rules::Answer;
 use node_rules::Node;
-
-// What is told of an answer.
-fn telling(a: Answer) -> [u8; 14]
-    ensures { λ r. ⌜ r ≡ told a ⌝ }
-{
-    let reply = a.replies;
-    [
-        a.number,
-        a.count,
-        reply[0],
-        reply[1],
-        reply[2],
-        reply[3],
-        reply[4],
-        reply[5],
-        reply[6],
-        reply[7],
-        reply[8],
-        reply[9],
-        reply[10],
-        reply[11],
-    ]
-}
 
 // Puts what is told of an answer into the output at a byte.
 fn put(output: &mut [u8], at: usize, telling: [u8; 14])
@@ -59,7 +34,7 @@ pub fn hand_over(
     let mut left = count;
     while 0 < left {
         let a = node_can::can_frame(n, &frames[at..at + 12], flash, eeprom);
-        put(answers, to, telling(a));
+        put(answers, to, update_telling::telling(a));
         n = a.node;
         at += 12;
         to += 14;

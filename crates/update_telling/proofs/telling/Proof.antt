@@ -1,4 +1,4 @@
--- `update_deliver::handing::telling` meets its contract: twelve elements written out are the first twelve.
+-- `update_telling::telling` meets its contract: twelve elements written out are the first twelve.
 -- Assumes nothing.
 use mathlib.Core.Path.{_≡_, ap}
 use mathlib.Core.List.{List, _∷_}
@@ -7,8 +7,8 @@ use native.Mathlib.Omega.{arith}
 use lib.ListN.{length}
 use Rattle.base.proofs.Listed.{listed-part}
 use borrow.Author.Needs.{needs}
-use Rattle.update_deliver.proofs.handing.telling.Statement.{statement}
-use Rattle.update_deliver.proofs.handing.telling.Tie as tie
+use Rattle.update_telling.proofs.telling.Statement.{statement}
+use Rattle.update_telling.proofs.telling.Tie as tie
 
 array-read-t5 : tie.Need-array-read-t5
 array-read-t5 c = search needs
