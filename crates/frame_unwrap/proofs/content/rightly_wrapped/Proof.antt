@@ -1,5 +1,5 @@
--- `frame_unwrap::content::rightly_wrapped` meets its contract: each return is the case that its tests led to, and the part that is summed is
--- the twelve behind the start.
+-- `frame_unwrap::content::rightly_wrapped` meets its contract: each return is the case that its tests led to, and the part that is
+-- summed is the twelve behind the start.
 -- Assumes nothing.
 use mathlib.Core.Path.{_≡_, _∙_, sym}
 use mathlib.Core.Bool.{Bool, true, false, _&&_}
