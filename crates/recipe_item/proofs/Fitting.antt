@@ -9,7 +9,7 @@ use native.Mathlib.Omega.{arith}
 use native.Mathlib.Nat.{add-zero}
 use borrow.Author.Tests.{eqb-true, ne-eqb, lt-ltb, le-ltb, leb-true, leb-false}
 use lib.Dec.{eqb, ltb, leb}
-use lib.ListN.{length, take, drop, getD, length-drop, drop-of-length-le}
+use lib.ListN.{length, take, drop, getD, length-drop}
 use lib.Seq.{drop-drop, getD-drop}
 use Rattle.base.specs.Parts.{part, patch}
 use Rattle.base.proofs.Choice.{true-or-false, both-true, true-both, cond-same, by-cond}
@@ -22,17 +22,9 @@ use Rattle.recipe.proofs.Framing.{Sized, item-bytes}
 use Rattle.recipe_item.specs.Emitted.{framesOfKind, framesAt, putAt, itemPut}
 use Rattle.recipe_item.proofs.Putting.{patch-none}
 
--- the kind and the address of what stands at a place
+-- the kind of what stands at a place
 pub kind-at : (s : List ℕ) (place : ℕ) → kindOf (drop place s) ≡ getD s place 0
 kind-at s place = getD-drop place s 0 0 ∙ ap (λ (n : ℕ). getD s n 0) (add-zero place)
-
-pub address-at : (s : List ℕ) (place x y z : ℕ) → x ≡ getD s (place + 1) 0 → y ≡ getD s (place + 2) 0 → z ≡ getD s (place + 3) 0
-    → x * 65536 + y * 256 + z ≡ addressOf (drop place s)
-address-at s place x y z p q r = rw (getD-drop place s 1 0, getD-drop place s 2 0, getD-drop place s 3 0, p, q, r)
-
--- behind the end there are no bytes
-pub address-behind : (s : List ℕ) (place : ℕ) → length s ≤ place → 0 ≡ addressOf (drop place s)
-address-behind s place h = rw (drop-of-length-le s {i = place} h)
 
 -- ---- the frames of an item that is whole
 

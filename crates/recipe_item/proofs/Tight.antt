@@ -5,17 +5,9 @@ use contract.Lifetimes.{Lfts}
 use borrow.Fn.World.{ArgsD, ResD}
 use denote.Triple.Clauses.{AtExit}
 use borrow.Fn.Kinds.{endedOf}
-use Rattle.recipe_item.proofs.address_of.{signature as address-signature}
-use Rattle.recipe_item.proofs.address_of.Kinds as address-kinds
-use Rattle.recipe_item.proofs.address_of.Reads as address-reads
 use Rattle.recipe_item.proofs.put_item.{signature as item-signature}
 use Rattle.recipe_item.proofs.put_item.Kinds as item-kinds
 use Rattle.recipe_item.proofs.put_item.Reads as item-reads
-
-pub address-of-tight : (κs : Lfts 1) (a : ArgsD address-signature κs) (r r′ : ResD address-signature κs)
-    (s s′ : AtExit (endedOf 1 address-kinds.ps address-kinds.r) κs)
-    → address-reads.Post κs a r s → address-reads.Post κs a r′ s′ → r ≡ r′
-address-of-tight κs a r r′ s s′ p q = p .0 ∙ sym (q .0)
 
 pub put-item-tight : (κs : Lfts 2) (a : ArgsD item-signature κs) (r r′ : ResD item-signature κs)
     (s s′ : AtExit (endedOf 2 item-kinds.ps item-kinds.r) κs)

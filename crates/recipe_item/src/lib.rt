@@ -7,31 +7,11 @@ ghost use mathlib.Core.Path.{_≡_};
 ghost use Prim.Native.Nat.{_+_, _<_};
 ghost use lib.Dec.{leb};
 ghost use lib.ListN.{drop};
-ghost use Rattle.recipe.specs.Faults.{addressOf};
 ghost use Rattle.recipe_item.specs.Emitted.{itemPut};
 use memory_address::EepromPlace;
 use memory_address::FlashAddress;
 use memory_address::Group;
 use memory_address::Module;
-
-fn wide(x: u8) -> u32
-    ensures { λ r. ⌜ (r ≡ x) × (r < 256) ⌝ }
-{
-    x as u32
-}
-
-// The address in the body of the item at a place, high byte first; bytes behind the end count as 0.
-pub fn address_of(input: &[u8], place: usize) -> u32
-    ensures { λ r. ⌜ (r ≡ addressOf (drop place (now (input .entry)))) × (r < 0x1000000) ⌝ }
-{
-    if input.len() <= place {
-        return 0;
-    }
-    let high = wide(base::byte_at(input, place + 1));
-    let middle = wide(base::byte_at(input, place + 2));
-    let low = wide(base::byte_at(input, place + 3));
-    high * 65536 + middle * 256 + low
-}
 
 // Whether as many bytes as `count`, from a byte on, lie within a size.
 fn within(size: usize, from: usize, count: usize) -> bool
@@ -75,7 +55,7 @@ pub fn put_item(input: &[u8], place: usize, output: &mut [u8], at: usize, m: Mod
                     at,
                     m,
                     g,
-                    FlashAddress(address_of(input, place)),
+                    FlashAddress(recipe_address::address_of(input, place)),
                 );
             }
         }
@@ -88,7 +68,7 @@ pub fn put_item(input: &[u8], place: usize, output: &mut [u8], at: usize, m: Mod
                     at,
                     m,
                     g,
-                    EepromPlace(address_of(input, place)),
+                    EepromPlace(recipe_address::address_of(input, place)),
                 );
             }
         }

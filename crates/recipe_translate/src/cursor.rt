@@ -31,7 +31,7 @@ pub fn fault_at(input: &[u8], place: usize, number: usize, ended: bool) -> u8
     if input.len() - place < 1 + crate::kind::body_length(kind) {
         return 22;
     }
-    if crate::kind::is_illegal(kind, recipe_item::address_of(input, place)) {
+    if crate::kind::is_illegal(kind, recipe_address::address_of(input, place)) {
         return 24;
     }
     0

@@ -12,7 +12,7 @@ fn refused(number: u8, place: usize, output: &[u8]) -> Line {
     Line {
         number: number as u64,
         place: place as u64,
-        frames: run_record::with_bytes(0, output),
+        frames: run_digest::with_bytes(0, output),
         answers: 0,
         flash: 0,
         eeprom: 0,
@@ -43,11 +43,11 @@ fn done(count: usize, output: &[u8], h: Handed, flash: &[u8], eeprom: &[u8]) -> 
     Line {
         number: 0,
         place: count as u64,
-        frames: run_record::with_bytes(0, output),
+        frames: run_digest::with_bytes(0, output),
         answers: h.answers,
-        flash: run_record::with_bytes(0, flash),
-        eeprom: run_record::with_bytes(0, eeprom),
-        node: run_record::with_bytes(0, &last),
+        flash: run_digest::with_bytes(0, flash),
+        eeprom: run_digest::with_bytes(0, eeprom),
+        node: run_digest::with_bytes(0, &last),
     }
 }
 

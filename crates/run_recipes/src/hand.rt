@@ -13,20 +13,20 @@ pub struct Handed {
 fn with_answer(h: Handed, a: Answer) -> Handed {
     let replies = a.replies;
     let node = a.node;
-    let head = run_record::with_bytes(h.answers, &[a.number, a.count]);
+    let head = run_digest::with_bytes(h.answers, &[a.number, a.count]);
     Handed {
         node,
-        answers: run_record::with_bytes(head, &replies),
+        answers: run_digest::with_bytes(head, &replies),
     }
 }
 
 fn with_uart_answer(h: Handed, a: UartAnswer) -> Handed {
     let replies = a.replies;
     let node = a.node;
-    let head = run_record::with_bytes(h.answers, &[a.number, a.count]);
+    let head = run_digest::with_bytes(h.answers, &[a.number, a.count]);
     Handed {
         node,
-        answers: run_record::with_bytes(head, &replies),
+        answers: run_digest::with_bytes(head, &replies),
     }
 }
 

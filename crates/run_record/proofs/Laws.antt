@@ -1,21 +1,16 @@
--- The laws of what is written: an array written out byte by byte is the record's bytes; a digest may be taken modulo 4,294,967,291
--- first; and one byte more.
+-- An array written out byte by byte is the record's bytes.
 -- Assumes nothing.
-use mathlib.Core.Path.{_≡_, _∙_, refl, sym, ap}
+use mathlib.Core.Path.{_≡_, _∙_, refl, ap}
 use mathlib.Core.List.{List, _∷_, _++_}
-use Prim.Native.Nat.{ℕ, _+_, _*_, _/_, _%_, _<_}
-use native.Mathlib.Nat.{mul-add-mod-self-right}
-use native.Mathlib.Numerals.{add-one}
+use Prim.Native.Nat.{ℕ, _%_}
 use native.Mathlib.Omega.{arith}
-use lib.ListN.{length, getD, drop}
-use lib.Seq.{drop-cons}
+use lib.ListN.{length}
 use Rattle.base.specs.Parts.{listed}
 use Rattle.base.proofs.Listed.{listed-part, listed-all}
 use Rattle.node_rules.specs.declared.Mode.{Mode}
 use Rattle.node_rules.specs.declared.Node.{Node}
 use Rattle.node_rules.specs.Requests.{stagedIn}
 use Rattle.run_record.specs.Record.{pinByte, modeByte, stagedByte, kindByte, addressOf, fourBytes, modeBytes, nodeBytes}
-use Rattle.run_record.specs.Digest.{oneMore, digestOf}
 
 -- the mode's bytes
 pub mode-written : (mode : Mode) (m s k a : ℕ) → m ≡ modeByte mode → s ≡ stagedByte (stagedIn mode) → k ≡ kindByte (stagedIn mode)
@@ -35,15 +30,3 @@ written-out n p last six fifteen pin mode =
     ap (λ (t : List ℕ). p ∷ (t ++ numbers (listed held 0 14 ++ last))) (listed-all fixed 6 six)
     ∙ ap (λ (t : List ℕ). p ∷ (fixed ++ numbers (t ++ last))) (listed-part held 0 14 (omega arith))
     ∙ rw (pin, mode) refl
-
--- a digest may be taken modulo 4,294,967,291 before it is multiplied
-pub low-first : (d b : ℕ) → (d % 4294967291 * 31 + b + 1) % 4294967291 ≡ oneMore d b
-unfolding oneMore
-low-first d b =
-    let e : d * 31 + b + 1 ≡ d / 4294967291 * 31 * 4294967291 + (d % 4294967291 * 31 + b + 1) = omega arith in
-    sym (ap (λ (x : ℕ). x % 4294967291) e ∙ mul-add-mod-self-right (d / 4294967291 * 31) 4294967291 (d % 4294967291 * 31 + b + 1))
-
--- the digest of what is left: the next byte, then those behind it
-pub next-byte : (d i : ℕ) (bytes : List ℕ) → i < length bytes
-    → digestOf (oneMore d (getD bytes i 0)) (drop (i + 1) bytes) ≡ digestOf d (drop i bytes)
-next-byte d i bytes h = rw (add-one i) (sym (ap (λ (t : List ℕ). digestOf d t) (drop-cons bytes i 0 h)))

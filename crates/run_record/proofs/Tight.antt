@@ -8,16 +8,8 @@ use borrow.Fn.Kinds.{endedOf}
 use Rattle.run_record.proofs.bytes_of.{signature as bytes-of-signature}
 use Rattle.run_record.proofs.bytes_of.Kinds as bytes-of-kinds
 use Rattle.run_record.proofs.bytes_of.Reads as bytes-of-reads
-use Rattle.run_record.proofs.with_bytes.{signature as with-bytes-signature}
-use Rattle.run_record.proofs.with_bytes.Kinds as with-bytes-kinds
-use Rattle.run_record.proofs.with_bytes.Reads as with-bytes-reads
 
 pub bytes-of-tight : (κs : Lfts 0) (a : ArgsD bytes-of-signature κs) (r r′ : ResD bytes-of-signature κs)
     (s s′ : AtExit (endedOf 0 bytes-of-kinds.ps bytes-of-kinds.r) κs)
     → bytes-of-reads.Post κs a r s → bytes-of-reads.Post κs a r′ s′ → r ≡ r′
 bytes-of-tight κs a r r′ s s′ p q = p ∙ sym q
-
-pub with-bytes-tight : (κs : Lfts 1) (a : ArgsD with-bytes-signature κs) (r r′ : ResD with-bytes-signature κs)
-    (s s′ : AtExit (endedOf 1 with-bytes-kinds.ps with-bytes-kinds.r) κs)
-    → with-bytes-reads.Post κs a r s → with-bytes-reads.Post κs a r′ s′ → r ≡ r′
-with-bytes-tight κs a r r′ s s′ p q = p ∙ sym q

@@ -33,8 +33,8 @@ pub fn close(s: Session, flash: &[u8], eeprom: &[u8]) {
     tell(b"session ", s.number);
     tell(b" events ", s.events);
     tell(b" digest ", s.digest);
-    tell(b" flash ", run_record::with_bytes(0, flash));
-    tell(b" eeprom ", run_record::with_bytes(0, eeprom));
+    tell(b" flash ", run_digest::with_bytes(0, flash));
+    tell(b" eeprom ", run_digest::with_bytes(0, eeprom));
     tell_counts(b" restart", &counts, RESTARTS, CAN_FRAMES);
     tell_counts(b" can", &counts, CAN_FRAMES, UART_BYTES);
     tell_counts(b" uart", &counts, UART_BYTES, COUNTS);

@@ -46,7 +46,7 @@ fn finish(s: Session, bytes: &[u8]) -> Session {
     if 0 < s.full {
         print(bytes);
     }
-    session::answered(s, run_record::with_bytes(s.digest, bytes))
+    session::answered(s, run_digest::with_bytes(s.digest, bytes))
 }
 
 // The session after an event whose answer bytes, the kind in front, come in three pieces.

@@ -1,4 +1,4 @@
--- `run_record::with_bytes` meets its contract: before each turn the digest so far, with the bytes that are left, is the digest with all.
+-- `run_digest::with_bytes` meets its contract: before each turn the digest so far, with the bytes that are left, is the digest with all.
 -- Assumes nothing.
 use mathlib.Core.Path.{_≡_, _∙_, refl, sym, ap}
 use mathlib.Core.List.{List}
@@ -6,10 +6,10 @@ use Prim.Native.Nat.{ℕ, _+_, _-_, _≤_}
 use lib.ListN.{length, drop, drop-of-length-le}
 use native.Mathlib.Omega.{arith}
 use borrow.Author.Needs.{needs}
-use Rattle.run_record.specs.Digest.{digestOf}
-use Rattle.run_record.proofs.Laws.{next-byte}
-use Rattle.run_record.proofs.with_bytes.Statement.{statement}
-use Rattle.run_record.proofs.with_bytes.Tie as tie
+use Rattle.run_digest.specs.Digest.{digestOf}
+use Rattle.run_digest.proofs.Laws.{next-byte}
+use Rattle.run_digest.proofs.with_bytes.Statement.{statement}
+use Rattle.run_digest.proofs.with_bytes.Tie as tie
 
 abbrev Inv-loop : tie.InvT-loop
 Inv-loop d bytes digest₀ i₀ digest i = (i ≤ length bytes) × (digestOf digest (drop i bytes) ≡ digestOf d bytes)

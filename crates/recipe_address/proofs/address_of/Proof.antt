@@ -1,11 +1,11 @@
--- `recipe_item::address_of` meets its contract: the three bytes behind the kind, and none behind the end.
+-- `recipe_address::address_of` meets its contract: the three bytes behind the kind, and none behind the end.
 -- Assumes nothing.
 use mathlib.Core.Path.{_∙_}
 use native.Mathlib.Omega.{arith}
-use Rattle.recipe_item.proofs.Fitting.{address-at, address-behind}
+use Rattle.recipe_address.proofs.Laws.{address-at, address-behind}
 use borrow.Author.Needs.{needs}
-use Rattle.recipe_item.proofs.address_of.Statement.{statement}
-use Rattle.recipe_item.proofs.address_of.Tie as tie
+use Rattle.recipe_address.proofs.address_of.Statement.{statement}
+use Rattle.recipe_address.proofs.address_of.Tie as tie
 
 returns : tie.Need-returns
 returns c = (address-behind (c .before .before .args .input .now) (c .before .before .args .place) (c .if1 .taken), omega arith)

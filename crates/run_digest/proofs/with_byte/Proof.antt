@@ -1,9 +1,9 @@
--- `run_record::with_byte` meets its contract: the digest is taken modulo 4,294,967,291 first, which changes nothing of what is left.
+-- `run_digest::with_byte` meets its contract: the digest is taken modulo 4,294,967,291 first, which changes nothing of what is left.
 -- Assumes nothing.
-use Rattle.run_record.proofs.Laws.{low-first}
+use Rattle.run_digest.proofs.Laws.{low-first}
 use borrow.Author.Needs.{needs}
-use Rattle.run_record.proofs.with_byte.Statement.{statement}
-use Rattle.run_record.proofs.with_byte.Tie as tie
+use Rattle.run_digest.proofs.with_byte.Statement.{statement}
+use Rattle.run_digest.proofs.with_byte.Tie as tie
 
 mul-result : tie.Need-mul-result
 mul-result c = search needs
