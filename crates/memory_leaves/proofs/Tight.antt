@@ -1,4 +1,4 @@
--- Any two outcomes that a contract allows for one input are equal: the whole result, and what is lent to be changed, afterwards.
+-- Any two outcomes that a contract allows for one input are equal: the cells afterwards; the leaves return nothing.
 -- The contracts are the generated `Reads`: nothing is said of a body.
 use mathlib.Core.Path.{_≡_, _∙_, sym}
 use contract.Lifetimes.{Lfts}

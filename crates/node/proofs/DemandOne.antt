@@ -26,7 +26,7 @@ use Rattle.node_rules.proofs.Numbers.{can-number, uart-number, can-refused, uar
 use Rattle.node_rules.proofs.Spoiling.{can-protected, uart-protected, can-lengths, uart-lengths, can-normal-spares, uart-normal-spares}
 use Rattle.node_rules.proofs.StaysTidy.{can-tidy, uart-tidy, restart-tidy, fresh-tidy}
 use Rattle.node_rules.proofs.ForOthers.{can-others, uart-others}
-use Rattle.node.proofs.Calls.{Fresh, Restart, RestartWith, CanFrame, UartByte, fresh-said, restart-said, restart-with-said, can-frame-said, uart-byte-said}
+use Rattle.node.proofs.Calls.{Fresh, Restart, RestartWith, CanFrame, UartByte, fresh-said, restart-with-said, can-frame-said, uart-byte-said}
 
 -- ---- a call of can_frame: whatever its contract allows
 

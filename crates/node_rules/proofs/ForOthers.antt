@@ -11,12 +11,11 @@ use lib.Dec.{eqb}
 use borrow.Author.Tests.{eqb-true, not-false}
 use Rattle.base.proofs.Choice.{by-cond, both-true}
 use Rattle.memory_address.specs.Places.{full}
-use Rattle.frame_rules.specs.Frame.{typeOf, moduleOf, groupOf}
+use Rattle.frame_rules.specs.Frame.{typeOf}
 use Rattle.frame_rules.specs.Wrapping.{innerOf}
 use Rattle.node_rules.specs.declared.HandledIn.{HandledIn}
 use Rattle.node_rules.specs.declared.HandledIn.the-variants.{InNormal, InProgramming}
 use Rattle.node_rules.specs.declared.Mode.{Mode}
-use Rattle.node_rules.specs.declared.Mode.the-variants.{Waiting}
 use Rattle.node_rules.specs.declared.Request.{Request}
 use Rattle.node_rules.specs.declared.Request.the-variants.{EnterProgramming, WaitForRestart, HardwareType, FirmwareType, Description, DeviceId, LeaveProgramming, AddressFrame, DataFrame}
 use Rattle.node_rules.specs.declared.Addressing.{Addressing}
@@ -32,12 +31,12 @@ use Rattle.node_rules.specs.declared.Next.the-variants.{Stays, Waits}
 use Rattle.node_rules.specs.declared.Reply.{Reply}
 use Rattle.node_rules.specs.declared.Reply.the-variants.{Silent}
 use Rattle.node_rules.specs.declared.Effect.{Effect}
-use Rattle.node_rules.specs.Record.{holding, withMode, heldOf, tidied}
-use Rattle.node_rules.specs.Requests.{handledTypes, lookIn, found, D, dataIn, areOwn, aModule, aGroup, isFor, isNormal, isProgramming, handledHere, asked, askedBy}
+use Rattle.node_rules.specs.Record.{holding, heldOf, tidied}
+use Rattle.node_rules.specs.Requests.{handledTypes, lookIn, found, dataIn, isFor, isNormal, isProgramming, handledHere, asked, askedBy}
 use Rattle.node_rules.specs.Outcomes.{requestOutcomes, typeOutcomes, frameOutcomes, canOutcomes, askedOf, decided}
 use Rattle.node_rules.specs.Replies.{replying}
 use Rattle.node_rules.specs.Step.{bootflSet, flashAfter, eepromAfter, nodeAfter, done, canStep}
-use Rattle.node_rules.specs.Uart.{viaUart, heldWith, uartOutcomes, heldAfter, heldDecided, uartStep}
+use Rattle.node_rules.specs.Uart.{heldWith, uartOutcomes, heldAfter, heldDecided, uartStep}
 use Rattle.node_rules.specs.Others.{ByGroup, ByZero, ForOthers, LeftByOthers, emptied, LeftByOthersOnUart}
 use Rattle.node_rules.proofs.Deciding.{Cases, unless-by}
 

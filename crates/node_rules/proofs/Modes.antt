@@ -2,7 +2,7 @@
 -- mode is never entered, and where a call leaves it so the mark stays. By what the table of handled types says of two requests, and the
 -- three cases of what becomes of the mode.
 -- Assumes nothing.
-use mathlib.Core.Path.{_≡_, _∙_, refl, sym, ap}
+use mathlib.Core.Path.{_≡_, _∙_, refl, sym}
 use mathlib.Core.Bool.{Bool, true, false, _&&_, not, false≢true}
 use mathlib.Core.List.{List, [], _∷_}
 use mathlib.Core.Logic.{_⊎_, ⊎-elim, inl, inr}
@@ -30,7 +30,7 @@ use Rattle.node_rules.specs.declared.Next.the-variants.{Stays, Programs,
 use Rattle.node_rules.specs.declared.Effect.{Effect}
 use Rattle.node_rules.specs.Record.{holding, heldOf, tidyMode, tidied}
 use Rattle.node_rules.specs.Requests.{lookIn, found, handledTypes, isProgramming, handledHere, stagedIn, doing, asked, askedBy}
-use Rattle.node_rules.specs.Outcomes.{Outcome, isDeaf, refused, requestOutcomes, typeOutcomes, frameOutcomes, canOutcomes, unless, askedOf, decided}
+use Rattle.node_rules.specs.Outcomes.{isDeaf, refused, requestOutcomes, typeOutcomes, frameOutcomes, canOutcomes, askedOf, decided}
 use Rattle.node_rules.specs.Step.{nodeAfter, done, canStep}
 use Rattle.node_rules.specs.Uart.{heldWith, isClosed, uartOutcomes, heldAfter, heldDecided, uartStep}
 use Rattle.node_rules.proofs.Tidying.{still-held}

@@ -1,7 +1,7 @@
 -- `memory_sum::firmware_sum` meets its contract: the part has 28,669 cells, each at most 255.
 -- Assumes nothing.
 use borrow.Author.Tests.{eq-eqb, ne-eqb}
-use mathlib.Core.Path.{_≡_, _∙_}
+use mathlib.Core.Path.{_∙_}
 use native.Mathlib.Omega.{arith}
 use lib.ListN.{length}
 use Rattle.memory_sum.specs.Sum.{firmwareSum}
