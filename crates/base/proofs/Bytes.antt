@@ -1,15 +1,10 @@
--- A list of bytes: each element below 256. Laws by which lists of bytes are put together.
+-- Laws by which lists of bytes are put together.
 -- Assumes nothing.
 use mathlib.Core.List.{List, [], _∷_, _++_}
 use Prim.Native.Nat.{ℕ, zero, suc, suc-le-suc, zero-le, _+_, _<_}
 use lib.Dec.{lit<}
 use lib.ListN.{length, getD, take, drop, replicate}
-use Rattle.base.specs.Parts.{part, patch}
-
--- every element is a byte
-abbrev pub Bytes : List ℕ → Type 0
-Bytes [] = Unit {0}
-Bytes (x ∷ xs) = (x < 256) × Bytes xs
+use Rattle.base.specs.Parts.{Bytes, part, patch}
 
 pub bytes-append : (xs ys : List ℕ) → Bytes xs → Bytes ys → Bytes (xs ++ ys)
 bytes-append [] ys h k = k

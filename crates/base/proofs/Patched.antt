@@ -9,7 +9,8 @@ use native.Mathlib.Omega.{arith}
 use borrow.Author.Tests.{le-leb, lt-leb}
 use lib.ListN.{length, getD, take, drop, length-append, length-take, length-drop, List·getD-append}
 use lib.Seq.{drop-drop, getD-append-add, getD-take, getD-drop, length-take-le, take-at, drop-at}
-use Rattle.base.specs.Parts.{part, patch, putAt}
+use Rattle.base.specs.Parts.{part, patch}
+use Rattle.base.specs.Internal.Putting.{putAt}
 
 -- a part that lies within is as long as it says
 pub part-length : (m : List ℕ) (a k : ℕ) → a + k ≤ length m → length (part m a k) ≡ k

@@ -7,8 +7,7 @@ use native.Mathlib.Nat.{le-of-suc-le-suc, not-suc-le-zero}
 use native.Mathlib.Numerals.{add-one}
 use native.Mathlib.Omega.{arith}
 use lib.ListN.{length, getD, take}
-use Rattle.base.proofs.Bytes.{Bytes}
-use Rattle.base.specs.Parts.{sumOf}
+use Rattle.base.specs.Parts.{sumOf, Bytes}
 
 -- one element more
 pub sum-next : (m : List ℕ) (i : ℕ) → i < length m → sumOf (take (suc i) m) ≡ sumOf (take i m) + getD m i 0

@@ -1,7 +1,8 @@
 // What every crate may use: readers and a writer that never run past the end, and the laws of parts, patches, choices and stores.
 ghost use mathlib.Core.Path.{_≡_};
 ghost use lib.ListN.{getD};
-ghost use Rattle.base.specs.Parts.{listed, putAt};
+ghost use Rattle.base.specs.Parts.{listed};
+ghost use Rattle.base.specs.Internal.Putting.{putAt};
 
 // The byte at i, or 0 behind the end.
 pub fn byte_at(s: &[u8], i: usize) -> u8

@@ -6,12 +6,13 @@ use mathlib.Core.List.{List}
 use Prim.Native.Nat.{ℕ}
 use native.Mathlib.Omega.{arith}
 use lib.ListN.{length, length-drop}
-use Rattle.base.proofs.Bytes.{Bytes}
+use Rattle.base.specs.Parts.{Bytes}
 use Rattle.frame_rules.specs.declared.Identified.{Identified}
 use Rattle.frame_rules.specs.Frame.{dataOf, identifierOf, legalIdentifier, upperFlags}
 use Rattle.frame_rules.proofs.Fields.{hapcan-length, hapcan-data, hapcan-no-upper-flags, hapcan-identifier, hapcan-injective}
 use Rattle.frame_rules.proofs.Fields.{identifier-legal, identifier-hapcan, identifier-injective}
-use Rattle.frame_can.proofs.Calls.{ToHapcan, ToCan, to-hapcan-gave, to-can-gave, to-hapcan-gives, to-can-gives}
+use Rattle.frame_can.proofs.Calls.{to-hapcan-gave, to-can-gave, to-hapcan-gives, to-can-gives}
+use Rattle.frame_can.specs.Calls.{ToHapcan, ToCan}
 
 -- CAN to HAPCAN to CAN: number 0, the same identifier and the same data
 pub can-hapcan-can : {i : ℕ} {d held f room d′ : List ℕ} {r : Identified} → ToHapcan i d held 0 f → ToCan f room r d′ → length room ≡ 8

@@ -8,7 +8,8 @@ use Prim.Native.Nat.{ℕ, _+_, _/_, _%_}
 use native.Mathlib.Omega.{arith}
 use lib.ListN.{length}
 use borrow.Author.Tests.{eq-eqb, eqb-true, le-leb, leb-true, not-false}
-use Rattle.base.proofs.Bytes.{Bytes, byte-of}
+use Rattle.base.proofs.Bytes.{byte-of}
+use Rattle.base.specs.Parts.{Bytes}
 use Rattle.frame_rules.specs.Frame.{typeOf, flagsOf, flagOf, moduleOf, groupOf, dataOf, upperFlags, identifierOf}
 use Rattle.frame_rules.specs.Frame.{legalIdentifier, typeIn, flagIn, moduleIn, groupIn, headOf, hapcanOf}
 

@@ -8,7 +8,8 @@ use lib.ListN.{length}
 use Rattle.frame_rules.specs.Wrapping.{innerOf, wrappedOf, rightlyWrapped}
 use Rattle.frame_rules.proofs.Wrapped.{wrapped-length, wrapped-inner, wrapped-right, wrapped-injective}
 use Rattle.frame_rules.proofs.Wrapped.{right-inner-length, right-wrapped, inner-injective}
-use Rattle.frame_uart.proofs.Calls.{Wrap, Unwrap, wrap-gave, unwrap-gave, wrap-gives, unwrap-gives}
+use Rattle.frame_uart.proofs.Calls.{wrap-gave, unwrap-gave, wrap-gives, unwrap-gives}
+use Rattle.frame_uart.specs.Calls.{Wrap, Unwrap}
 
 -- a frame that is wrapped and unwrapped: number 0 and the same frame
 pub wrap-unwrap : {n : ℕ} {f held w room f′ : List ℕ} → Wrap f held 0 w → Unwrap w room n f′ → length room ≡ 12 → (n ≡ 0) × (f′ ≡ f)

@@ -16,7 +16,7 @@ use Rattle.base.proofs.Choice.{by-cond, both-true, true-both}
 use Rattle.memory_address.specs.declared.Address.the-variants.{Flash, Eeprom}
 use Rattle.memory_address.specs.declared.Ruled.{Ruled}
 use Rattle.memory_address.specs.declared.Ruled.the-variants.{Legal, Illegal}
-use Rattle.memory_address.specs.Rule.{multipleIn, rim, lastFlashRow, lastBlock, firstEepromRow, lastEepromRow}
+use Rattle.memory_address.specs.Rule.{multipleIn, rim, lastFlashRow, lastBlock, firstEepromRow, lastEepromRow, cellsOf}
 use Rattle.memory_address.specs.Rule.{inFlash, inEeprom, rowOf, readRow, writeRow, blockOf, ruled, protected}
 use Rattle.memory_address.specs.Rule.{isFlash, isEeprom, isLegal, legalFlash, legalEeprom, numbered}
 
@@ -29,10 +29,6 @@ multiple-in step low high a e =
 in-multiple : (step low high a : ℕ) → low ≤ a → a ≤ high → a % step ≡ 0 → multipleIn step low high a ≡ true
 in-multiple step low high a l h m =
     true-both (leb low a) _ (le-leb low a l) (true-both (leb a high) _ (le-leb a high h) (eq-eqb (a % step) 0 m))
-
--- how many cells a command works on
-abbrev pub cellsOf : ℕ → ℕ
-cellsOf command = cond (eqb command 0x03) 64 8
 
 -- what is known of the rule's answer for n cells at a: in FLASH above the rim, or in EEPROM, and within it
 abbrev pub Within : ℕ → ℕ → Ruled → Type 0

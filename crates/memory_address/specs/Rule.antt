@@ -56,6 +56,10 @@ unfoldable pub ruled : ℕ → ℕ → Ruled
 ruled a command =
     cond (eqb command 0x01) (readRow a) (cond (eqb command 0x02) (writeRow a) (cond (eqb command 0x03) (blockOf a) Illegal))
 
+-- how many cells a command works on: "Erase sets 64 cells", and else a row's eight
+abbrev pub cellsOf : ℕ → ℕ
+cellsOf command = cond (eqb command 0x03) 64 8
+
 -- the cells of FLASH that no legal write or erase covers: those below the rim
 unfoldable pub protected : ℕ → Bool
 protected cell = ltb cell rim

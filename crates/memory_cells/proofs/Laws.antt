@@ -10,13 +10,13 @@ use native.Mathlib.Omega.{arith}
 use lib.Dec.{eqb, lit<}
 use lib.ListN.{length, getD, replicate}
 use borrow.Author.Tests.{eqb-true, eq-eqb}
-use Rattle.base.specs.Parts.{part, patch}
+use Rattle.base.specs.Parts.{part, patch, Bytes}
 use Rattle.base.proofs.Choice.{by-cond}
-use Rattle.base.proofs.Bytes.{Bytes, bytes-patch, bytes-part, bytes-replicate}
+use Rattle.base.proofs.Bytes.{bytes-patch, bytes-part, bytes-replicate}
 use Rattle.base.proofs.Patched.{part-length, length-patch, elsewhere-patch}
 use Rattle.memory_address.specs.Places.{flashCells, eepromCells, eepromCell}
-use Rattle.memory_address.specs.Rule.{protected, legalFlash, legalEeprom}
-use Rattle.memory_address.proofs.Laws.{cellsOf, zero-numbered, flash-within, eeprom-within, spares-protected, rim-protected}
+use Rattle.memory_address.specs.Rule.{protected, legalFlash, legalEeprom, cellsOf}
+use Rattle.memory_address.proofs.Laws.{zero-numbered, flash-within, eeprom-within, spares-protected, rim-protected}
 use Rattle.memory_leaves.specs.Leaves.{combined, flashCellsAfter, eepromCellsAfter, erasedCells}
 use Rattle.memory_cells.specs.Memory.{ifDone, flashNumber, eepromNumber, flashWritten, flashErased, eepromWritten}
 use Rattle.memory_leaves.proofs.Combined.{bytes-combined}

@@ -6,7 +6,7 @@ use Prim.Native.Nat.{ℕ, zero, suc, suc-le-suc, _<_, _≤_, _/_, _%_, _^_}
 use native.Mathlib.Nat.{le-of-suc-le-suc, not-suc-le-zero, le-trans, mod-eq-of-lt, suc-ne-zero, suc-inj}
 use lib.Bits.{bitAnd, and-le-l, and-shr, and-mod, and-comm, and-mask}
 use lib.ListN.{length, getD, replicate}
-use Rattle.base.proofs.Bytes.{Bytes}
+use Rattle.base.specs.Parts.{Bytes}
 use Rattle.memory_leaves.specs.Leaves.{combined}
 
 pub length-combined : (xs ys : List ℕ) → length (combined xs ys) ≡ length xs

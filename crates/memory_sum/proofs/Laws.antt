@@ -8,8 +8,8 @@ use native.Mathlib.Omega.{arith}
 use lib.Dec.{eqb}
 use lib.ListN.{length}
 use borrow.Author.Tests.{eqb-true, eq-eqb}
-use Rattle.base.specs.Parts.{part}
-use Rattle.base.proofs.Bytes.{Bytes, bytes-part}
+use Rattle.base.specs.Parts.{part, Bytes}
+use Rattle.base.proofs.Bytes.{bytes-part}
 use Rattle.base.proofs.Choice.{by-cond}
 use Rattle.base.proofs.Patched.{part-length}
 use Rattle.memory_sum.specs.Sum.{firmwareSum, storedSumOf, starts}

@@ -1,15 +1,11 @@
 -- The sums of document 01, "Memories and the plate", and when firmware starts.
-use Prim.Native.Nat.{ℕ, _+_, _*_}
+use Prim.Native.Nat.{ℕ, _+_}
 use mathlib.Core.Bool.{Bool, false, cond}
 use mathlib.Core.List.{List}
 use lib.Dec.{eqb}
 use lib.ListN.{length, getD}
-use Rattle.base.specs.Parts.{part, sumOf}
+use Rattle.base.specs.Parts.{part, sumOf, highFirst}
 use Rattle.memory_address.specs.Places.{flashCells, storedSum, firstSummed, summedCells}
-
--- three bytes, high byte first
-abbrev pub highFirst : ℕ → ℕ → ℕ → ℕ
-highFirst a b c = a * 65536 + b * 256 + c
 
 -- "The firmware sum adds all cells 0x001003 to 0x007FFF, 28,669 of them"
 unfoldable pub firmwareSum : List ℕ → ℕ

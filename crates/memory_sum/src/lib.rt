@@ -2,8 +2,8 @@
 ghost use mathlib.Core.Path.{_≡_};
 ghost use Prim.Native.Nat.{_≤_, _*_};
 ghost use lib.ListN.{length};
-ghost use Rattle.base.specs.Parts.{sumOf};
-ghost use Rattle.memory_sum.specs.Sum.{highFirst, firmwareSum, storedSumOf, starts};
+ghost use Rattle.base.specs.Parts.{sumOf, highFirst};
+ghost use Rattle.memory_sum.specs.Sum.{firmwareSum, storedSumOf, starts};
 use memory_address::FIRST_SUMMED;
 use memory_address::FLASH_CELLS;
 use memory_address::PAST_SUMMED;

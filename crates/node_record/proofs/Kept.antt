@@ -17,7 +17,7 @@ use Rattle.node_rules.specs.declared.Mode.{Mode}
 use Rattle.node_rules.specs.declared.Mode.the-variants.{Normal, Programming, Error, Waiting}
 use Rattle.node_rules.specs.declared.Receiver.{Receiver}
 use Rattle.node_rules.specs.Record.{padded, receiving, mayHold, heldIn, tidyMode}
-use Rattle.node_record.specs.Tidy.{isTidy}
+use Rattle.node_record.specs.Internal.Tidy.{isTidy}
 
 -- the first c bytes, 0 from there to i, and the old bytes behind
 abbrev zeroedTo : List ℕ → ℕ → ℕ → List ℕ

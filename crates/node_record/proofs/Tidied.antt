@@ -7,7 +7,7 @@ use Rattle.node_rules.specs.declared.Mode.the-variants.{Programming}
 use Rattle.node_rules.specs.declared.Receiver.{Receiver}
 use Rattle.node_rules.specs.declared.Node.{Node}
 use Rattle.node_rules.specs.Record.{receiving, heldOf, withMode, tidied}
-use Rattle.node_record.specs.Tidy.{isTidy}
+use Rattle.node_record.specs.Internal.Tidy.{isTidy}
 use Rattle.node_record.proofs.Kept.{kept-mode, lost-mode}
 
 -- the record with this in its receiver

@@ -2,7 +2,7 @@
 ghost use mathlib.Core.Path.{_≡_};
 ghost use mathlib.Core.List.{[]};
 ghost use Rattle.node_rules.specs.Record.{receiving, heldIn, legalAt, legalStaged};
-ghost use Rattle.node_record.specs.Tidy.{isTidy};
+ghost use Rattle.node_record.specs.Internal.Tidy.{isTidy};
 use memory_address::Address;
 use memory_address::ERASE;
 use memory_address::READ;

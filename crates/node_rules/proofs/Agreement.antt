@@ -22,13 +22,13 @@ use Rattle.node_rules.specs.declared.Found.{Found}
 use Rattle.node_rules.specs.declared.Found.the-variants.{Handled, Unhandled}
 use Rattle.node_rules.specs.declared.Node.{Node}
 use Rattle.node_rules.specs.declared.Effect.{Effect}
-use Rattle.node_rules.specs.Record.{holding, mayHold, heldIn, heldOf, tidyMode, tidied}
+use Rattle.node_rules.specs.Record.{holding, mayHold, heldIn, heldOf, tidyMode, tidied, Holdable}
 use Rattle.node_rules.specs.Outcomes.{Outcome, outcome, isDeaf, misshapen, isResponse, refused, unless, typeOutcomes, frameOutcomes, askedOf, decided}
 use Rattle.node_rules.specs.Requests.{found}
 use Rattle.node_rules.specs.Step.{Step, done, canStep}
 use Rattle.node_rules.specs.Uart.{UartStep, heldWith, incomplete, isClosed, heldAfterBad, heldAfter, heldDecided, heldDone, received, viaUart, uartStep, silent}
 use Rattle.node_rules.specs.Runs.{State, state, endOf, behindFrame, behindByte, bytesIn, collected, AllTen, NoStart}
-use Rattle.node_rules.proofs.Tidying.{Holdable, held-holdable, held-held, mode-twice, holding-tidy, tidy-twice}
+use Rattle.node_rules.proofs.Tidying.{held-holdable, held-held, mode-twice, holding-tidy, tidy-twice}
 use Rattle.node_rules.proofs.Deciding.{among-cases, unless-by, frame-among, asked-of-zero}
 use Rattle.node_rules.proofs.Ruling.{sizes-full}
 use Rattle.node_rules.proofs.Modes.{tidy-deaf}

@@ -12,7 +12,7 @@ use native.Mathlib.Omega.{arith}
 use lib.Dec.{eqb, lit<}
 use lib.ListN.{length, getD, set, replicate}
 use borrow.Author.Tests.{eq-eqb}
-use Rattle.base.specs.Parts.{part, patch, listed}
+use Rattle.base.specs.Parts.{part, patch, listed, highFirst}
 use Rattle.base.proofs.Choice.{true-both}
 use Rattle.base.proofs.Listed.{listed-part}
 use Rattle.base.proofs.Patched.{inside-patch}
@@ -44,7 +44,7 @@ use Rattle.node_rules.specs.Record.{withMode, tidied}
 use Rattle.node_rules.specs.Requests.{kind, found, handledTypes, isProgramming, isFor, commandAt, stagedBy, does, doing, asked}
 use Rattle.node_rules.specs.Outcomes.{outcome, unless, misshapen, isResponse, isNothing, requestOutcomes}
 use Rattle.node_rules.specs.Step.{Step, done, canStep}
-use Rattle.node_rules.specs.Reading.{leaves, repliesWith, withOwn, eightOf, addressOf, Stages, eightAt, eightAnd}
+use Rattle.node_rules.specs.Reading.{leaves, repliesWith, withOwn, eightOf, Stages, eightAt, eightAnd}
 use Rattle.node_rules.proofs.TidiedOnce.{tidied-legal}
 use Rattle.node_rules.proofs.Ruling.{sizes-full, obeys}
 
@@ -116,7 +116,7 @@ module _ (n : Node) (flash eeprom : List ℕ) (fl : length flash ≡ 65536) (el 
         (kind 0x020 InProgramming OwnNumbers LeaveProgramming) refl refl refl refl (own-own (n .plate .own .0) (n .plate .group .0)))
 
     -- 0x030, "own numbers in the frame: D0 D1 D2 is the address, high byte first, D5 the command."
-    by-address : (r : Ruled) → ruled (addressOf d0 d1 d2) d5 ≡ r
+    by-address : (r : Ruled) → ruled (highFirst d0 d1 d2) d5 ≡ r
         → canStep n (withOwn (n .plate) 0x03 0x00 (eightOf d0 d1 d2 d3 d4 d5 d6 d7)) flash eeprom
         ≡ done (staging d5 r) (tidied n) (withOwn (n .plate) 0x03 0x00 (eightOf d0 d1 d2 d3 d4 d5 d6 d7)) flash eeprom
     unfolding tidied found handledTypes
@@ -126,14 +126,14 @@ module _ (n : Node) (flash eeprom : List ℕ) (fl : length flash ≡ 65536) (el 
         ∙ ap (λ (x : Ruled). done (staging d5 x) (tidied n) (withOwn (n .plate) 0x03 0x00 (eightOf d0 d1 d2 d3 d4 d5 d6 d7)) flash eeprom) e
 
     -- "0x030 with illegal address or command": 8, nothing staged
-    pub request-030-illegal : legalFlash (addressOf d0 d1 d2) d5 ≡ false → legalEeprom (addressOf d0 d1 d2) d5 ≡ false
+    pub request-030-illegal : legalFlash (highFirst d0 d1 d2) d5 ≡ false → legalEeprom (highFirst d0 d1 d2) d5 ≡ false
         → canStep n (withOwn (n .plate) 0x03 0x00 (eightOf d0 d1 d2 d3 d4 d5 d6 d7)) flash eeprom
         ≡ leaves 8 0 (replicate 24 0) (withMode (tidied n) (Programming Nothing)) flash eeprom
     unfolding done
-    request-030-illegal h k = by-address Illegal (ruled-illegal (addressOf d0 d1 d2) d5 h k)
+    request-030-illegal h k = by-address Illegal (ruled-illegal (highFirst d0 d1 d2) d5 h k)
 
     -- "Legal: staged, D0 to D7 echoed."
-    stages : (x : Address) → ruled (addressOf d0 d1 d2) d5 ≡ Legal x
+    stages : (x : Address) → ruled (highFirst d0 d1 d2) d5 ≡ Legal x
         → Stages n (eightOf d0 d1 d2 d3 d4 d5 d6 d7) (commandAt d5 x) flash eeprom
     unfolding done tidied
     stages x e = by-address (Legal x) e
@@ -141,36 +141,36 @@ module _ (n : Node) (flash eeprom : List ℕ) (fl : length flash ≡ 65536) (el 
 -- 0x030 with each legal command
 module _ (n : Node) (flash eeprom : List ℕ) (fl : length flash ≡ 65536) (el : length eeprom ≡ 1024) (s : Staged)
     (mode : tidied n .mode ≡ Programming s) (d0 d1 d2 d3 d4 d6 d7 : ℕ) where
-  at-flash : (command : ℕ) → legalFlash (addressOf d0 d1 d2) command ≡ true
-      → Stages n (eightOf d0 d1 d2 d3 d4 command d6 d7) (commandAt command (Flash (record { 0 = addressOf d0 d1 d2 }))) flash eeprom
+  at-flash : (command : ℕ) → legalFlash (highFirst d0 d1 d2) command ≡ true
+      → Stages n (eightOf d0 d1 d2 d3 d4 command d6 d7) (commandAt command (Flash (record { 0 = highFirst d0 d1 d2 }))) flash eeprom
   at-flash command h =
-      stages n flash eeprom fl el s mode d0 d1 d2 d3 d4 command d6 d7 (Flash (record { 0 = addressOf d0 d1 d2 }))
-      (flash-ruled (addressOf d0 d1 d2) command h)
+      stages n flash eeprom fl el s mode d0 d1 d2 d3 d4 command d6 d7 (Flash (record { 0 = highFirst d0 d1 d2 }))
+      (flash-ruled (highFirst d0 d1 d2) command h)
 
-  at-eeprom : (command : ℕ) → legalEeprom (addressOf d0 d1 d2) command ≡ true
-      → Stages n (eightOf d0 d1 d2 d3 d4 command d6 d7) (commandAt command (Eeprom (record { 0 = addressOf d0 d1 d2 }))) flash eeprom
+  at-eeprom : (command : ℕ) → legalEeprom (highFirst d0 d1 d2) command ≡ true
+      → Stages n (eightOf d0 d1 d2 d3 d4 command d6 d7) (commandAt command (Eeprom (record { 0 = highFirst d0 d1 d2 }))) flash eeprom
   at-eeprom command h =
-      stages n flash eeprom fl el s mode d0 d1 d2 d3 d4 command d6 d7 (Eeprom (record { 0 = addressOf d0 d1 d2 }))
-      (eeprom-ruled (addressOf d0 d1 d2) command h)
+      stages n flash eeprom fl el s mode d0 d1 d2 d3 d4 command d6 d7 (Eeprom (record { 0 = highFirst d0 d1 d2 }))
+      (eeprom-ruled (highFirst d0 d1 d2) command h)
 
-  pub request-030-read-flash : legalFlash (addressOf d0 d1 d2) 0x01 ≡ true
-      → Stages n (eightOf d0 d1 d2 d3 d4 0x01 d6 d7) (Read (Flash (record { 0 = addressOf d0 d1 d2 }))) flash eeprom
+  pub request-030-read-flash : legalFlash (highFirst d0 d1 d2) 0x01 ≡ true
+      → Stages n (eightOf d0 d1 d2 d3 d4 0x01 d6 d7) (Read (Flash (record { 0 = highFirst d0 d1 d2 }))) flash eeprom
   request-030-read-flash = at-flash 0x01
 
-  pub request-030-write-flash : legalFlash (addressOf d0 d1 d2) 0x02 ≡ true
-      → Stages n (eightOf d0 d1 d2 d3 d4 0x02 d6 d7) (Write (Flash (record { 0 = addressOf d0 d1 d2 }))) flash eeprom
+  pub request-030-write-flash : legalFlash (highFirst d0 d1 d2) 0x02 ≡ true
+      → Stages n (eightOf d0 d1 d2 d3 d4 0x02 d6 d7) (Write (Flash (record { 0 = highFirst d0 d1 d2 }))) flash eeprom
   request-030-write-flash = at-flash 0x02
 
-  pub request-030-erase : legalFlash (addressOf d0 d1 d2) 0x03 ≡ true
-      → Stages n (eightOf d0 d1 d2 d3 d4 0x03 d6 d7) (Erase (record { 0 = addressOf d0 d1 d2 })) flash eeprom
+  pub request-030-erase : legalFlash (highFirst d0 d1 d2) 0x03 ≡ true
+      → Stages n (eightOf d0 d1 d2 d3 d4 0x03 d6 d7) (Erase (record { 0 = highFirst d0 d1 d2 })) flash eeprom
   request-030-erase = at-flash 0x03
 
-  pub request-030-read-eeprom : legalEeprom (addressOf d0 d1 d2) 0x01 ≡ true
-      → Stages n (eightOf d0 d1 d2 d3 d4 0x01 d6 d7) (Read (Eeprom (record { 0 = addressOf d0 d1 d2 }))) flash eeprom
+  pub request-030-read-eeprom : legalEeprom (highFirst d0 d1 d2) 0x01 ≡ true
+      → Stages n (eightOf d0 d1 d2 d3 d4 0x01 d6 d7) (Read (Eeprom (record { 0 = highFirst d0 d1 d2 }))) flash eeprom
   request-030-read-eeprom = at-eeprom 0x01
 
-  pub request-030-write-eeprom : legalEeprom (addressOf d0 d1 d2) 0x02 ≡ true
-      → Stages n (eightOf d0 d1 d2 d3 d4 0x02 d6 d7) (Write (Eeprom (record { 0 = addressOf d0 d1 d2 }))) flash eeprom
+  pub request-030-write-eeprom : legalEeprom (highFirst d0 d1 d2) 0x02 ≡ true
+      → Stages n (eightOf d0 d1 d2 d3 d4 0x02 d6 d7) (Write (Eeprom (record { 0 = highFirst d0 d1 d2 }))) flash eeprom
   request-030-write-eeprom = at-eeprom 0x02
 
 -- 0x040, "own numbers in the frame: does the staged command, with D0 to D7 as the data of a write. The command stays staged. .. the reply

@@ -28,6 +28,7 @@ use Rattle.node_rules.specs.Record.{heldOf, tidyMode, tidied}
 use Rattle.node_rules.specs.Requests.{found, dataIn, asked, askedBy}
 use Rattle.node_rules.specs.Outcomes.{Outcome, canOutcomes, unless, askedOf, decided}
 use Rattle.node_rules.specs.Step.{flashAfter, eepromAfter, done, canStep}
+use Rattle.node_rules.specs.Runs.{flashAfterAll, eepromAfterAll}
 use Rattle.node_rules.specs.Uart.{heldWith, uartOutcomes, heldDecided, uartStep}
 use Rattle.node_rules.specs.Others.{ButBootfl}
 use Rattle.node_rules.proofs.Deciding.{unless-every}
@@ -57,14 +58,6 @@ eeprom-length (Erased a) d eeprom = refl
 
 -- ---- THE LAW, of any memory effects one after the other, each with its own data, wherever they point: a write or an erase at an
 -- illegal address changes nothing
-
-abbrev pub flashAfterAll : List (Memory × List ℕ) → List ℕ → List ℕ
-flashAfterAll [] flash = flash
-flashAfterAll (c ∷ cs) flash = flashAfterAll cs (flashAfter (c .0) (c .1) flash)
-
-abbrev pub eepromAfterAll : List (Memory × List ℕ) → List ℕ → List ℕ
-eepromAfterAll [] eeprom = eeprom
-eepromAfterAll (c ∷ cs) eeprom = eepromAfterAll cs (eepromAfter (c .0) (c .1) eeprom)
 
 pub protected-stays : (cs : List (Memory × List ℕ)) (flash : List ℕ) (i : ℕ) → protected i ≡ true
     → getD (flashAfterAll cs flash) i 0 ≡ getD flash i 0

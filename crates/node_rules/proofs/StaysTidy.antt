@@ -12,13 +12,13 @@ use lib.ListN.{length, getD}
 use borrow.Author.Tests.{eqb-true, ltb-true}
 use Rattle.base.proofs.Choice.{by-cond}
 use Rattle.memory_address.specs.Places.{full}
-use Rattle.memory_address.specs.Rule.{ruled, isFlash, isEeprom, isLegal, legalFlash, legalEeprom}
+use Rattle.memory_address.specs.Rule.{ruled, isFlash, isEeprom, isLegal, legalFlash, legalEeprom, cellsOf}
 use Rattle.memory_address.specs.declared.FlashAddress.{FlashAddress}
 use Rattle.memory_address.specs.declared.EepromPlace.{EepromPlace}
 use Rattle.memory_address.specs.declared.Address.the-variants.{Flash, Eeprom}
 use Rattle.memory_address.specs.declared.Ruled.{Ruled}
 use Rattle.memory_address.specs.declared.Ruled.the-variants.{Legal, Illegal}
-use Rattle.memory_address.proofs.Laws.{Within, cellsOf, ruled-within, legal-command, no-eeprom-erase}
+use Rattle.memory_address.proofs.Laws.{Within, ruled-within, legal-command, no-eeprom-erase}
 use Rattle.memory_sum.specs.Sum.{starts}
 use Rattle.frame_rules.specs.Frame.{typeOf}
 use Rattle.frame_rules.specs.Wrapping.{innerOf}
@@ -36,13 +36,13 @@ use Rattle.node_rules.specs.declared.Restarted.{Restarted}
 use Rattle.node_rules.specs.declared.Next.{Next}
 use Rattle.node_rules.specs.declared.Next.the-variants.{Stays, Programs, Waits}
 use Rattle.node_rules.specs.declared.Effect.{Effect}
-use Rattle.node_rules.specs.Record.{holding, heldIn, heldOf, legalStaged, tidyMode, tidied, freshNode}
+use Rattle.node_rules.specs.Record.{holding, heldIn, heldOf, legalStaged, tidyMode, tidied, freshNode, Holdable}
 use Rattle.node_rules.specs.Requests.{found, D, addressIn, commandAt, stagedBy, stagedIn, doing, asked, askedBy}
 use Rattle.node_rules.specs.Outcomes.{Outcome, refused, frameOutcomes, canOutcomes, unless, askedOf, decided}
 use Rattle.node_rules.specs.Step.{nodeAfter, done, canStep}
 use Rattle.node_rules.specs.Restart.{modeReached, restartedIn, restartStep}
 use Rattle.node_rules.specs.Uart.{heldWith, incomplete, heldOutcomes, heldAfterBad, heldAfter, heldDecided, uartStep}
-use Rattle.node_rules.proofs.Tidying.{Holdable, held-holdable, holding-tidy, tidy-twice, tidied-mode, mode-tidy}
+use Rattle.node_rules.proofs.Tidying.{held-holdable, holding-tidy, tidy-twice, tidied-mode, mode-tidy}
 use Rattle.node_rules.proofs.Deciding.{unless-every, unless-by, among-cases, frame-among, asked-of-zero}
 
 -- ---- what a frame stages is legal

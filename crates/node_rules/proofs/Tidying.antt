@@ -16,12 +16,7 @@ use Rattle.node_rules.specs.declared.Mode.{Mode}
 use Rattle.node_rules.specs.declared.Mode.the-variants.{Normal, Programming, Error, Waiting}
 use Rattle.node_rules.specs.declared.Receiver.{Receiver}
 use Rattle.node_rules.specs.declared.Node.{Node}
-use Rattle.node_rules.specs.Record.{receiving, holding, withMode, mayHold, heldIn, heldOf, legalStaged, tidyStaged, tidyMode, tidied}
-
--- bytes that may be held: none, or at most 14 that start with 0xAA
-abbrev pub Holdable : List ℕ → Type 0
-Holdable [] = Unit {0}
-Holdable (x ∷ xs) = (x ≡ 0xAA) × (length xs ≤ 13)
+use Rattle.node_rules.specs.Record.{Holdable, receiving, holding, withMode, mayHold, heldIn, heldOf, legalStaged, tidyStaged, tidyMode, tidied}
 
 first-holdable : (h : List ℕ) (count : ℕ) → count ≤ 14 → getD h 0 0 ≡ 0xAA → Holdable (take count h)
 first-holdable h zero l e = tt

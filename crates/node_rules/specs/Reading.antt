@@ -1,11 +1,11 @@
 -- The words of the theorems that docs/ANSWERS.md cites, beside those of the rules themselves.
-use Prim.Native.Nat.{ℕ, _+_, _*_}
+use Prim.Native.Nat.{ℕ, _+_}
 use mathlib.Core.Path.{_≡_}
 use mathlib.Core.List.{List, [], _∷_, _++_}
 use mathlib.Core.Logic.{_⊎_}
 use lib.Bits.{bitAnd}
 use lib.ListN.{getD, replicate}
-use Rattle.base.specs.Parts.{part, sumOf}
+use Rattle.base.specs.Parts.{part, sumOf, highFirst}
 use Rattle.node_rules.specs.declared.Staged.{Staged}
 use Rattle.node_rules.specs.declared.Mode.the-variants.{Programming}
 use Rattle.node_rules.specs.declared.Plate.{Plate}
@@ -33,10 +33,6 @@ withOwn p b1 b2 d = b1 ∷ b2 ∷ p .own .0 ∷ p .group .0 ∷ d
 -- eight bytes
 abbrev pub eightOf : ℕ → ℕ → ℕ → ℕ → ℕ → ℕ → ℕ → ℕ → List ℕ
 eightOf d0 d1 d2 d3 d4 d5 d6 d7 = d0 ∷ d1 ∷ d2 ∷ d3 ∷ d4 ∷ d5 ∷ d6 ∷ d7 ∷ []
-
--- "D0 D1 D2 is the address, high byte first"
-abbrev pub addressOf : ℕ → ℕ → ℕ → ℕ
-addressOf d0 d1 d2 = d0 * 65536 + d1 * 256 + d2
 
 -- 0x030 with D0 to D7: "Legal: staged, D0 to D7 echoed."
 abbrev pub Stages : Node → List ℕ → Staged → List ℕ → List ℕ → Type 0
@@ -71,4 +67,4 @@ NoneIs (x ∷ xs) t = (x ≡ t → ⊥) × NoneIs xs t
 -- "stored sum equals firmware sum", by place
 abbrev pub SumsAgree : List ℕ → Type 0
 SumsAgree flash =
-    getD flash 0x001000 0 * 65536 + getD flash 0x001001 0 * 256 + getD flash 0x001002 0 ≡ sumOf (part flash 0x001003 28669)
+    highFirst (getD flash 0x001000 0) (getD flash 0x001001 0) (getD flash 0x001002 0) ≡ sumOf (part flash 0x001003 28669)

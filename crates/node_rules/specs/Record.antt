@@ -1,7 +1,8 @@
 -- The node's record (document 01, "Node and modes"): what is held, what is legal to be staged, and the tidied record.
-use Prim.Native.Nat.{ℕ, _-_}
+use Prim.Native.Nat.{ℕ, _-_, _≤_}
+use mathlib.Core.Path.{_≡_}
 use mathlib.Core.Bool.{Bool, true, _&&_, cond}
-use mathlib.Core.List.{List, [], _++_}
+use mathlib.Core.List.{List, [], _∷_, _++_}
 use lib.Dec.{leb, eqb}
 use lib.ListN.{length, getD, take, replicate}
 use Rattle.memory_address.specs.Rule.{legalFlash, legalEeprom}
@@ -41,6 +42,11 @@ heldIn r = cond (mayHold r) (take (r .count) (r .held)) []
 
 abbrev pub heldOf : Node → List ℕ
 heldOf n = heldIn (n .receiver)
+
+-- bytes that may be held: none, or at most 14 that start with 0xAA
+abbrev pub Holdable : List ℕ → Type 0
+Holdable [] = Unit {0}
+Holdable (x ∷ xs) = (x ≡ 0xAA) × (length xs ≤ 13)
 
 -- whether a command is legal at an address of either kind
 abbrev pub legalAt : Address → ℕ → Bool

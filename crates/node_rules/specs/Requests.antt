@@ -1,10 +1,10 @@
 -- "Requests and replies": which types are handled, whom a frame is for, and what each request comes to.
-use Prim.Native.Nat.{ℕ, _+_, _*_}
+use Prim.Native.Nat.{ℕ, _+_}
 use mathlib.Core.Bool.{Bool, true, false, _&&_, _||_, cond}
 use mathlib.Core.List.{List, [], _∷_}
 use lib.Dec.{eqb}
 use lib.ListN.{getD}
-use Rattle.base.specs.Parts.{listed}
+use Rattle.base.specs.Parts.{listed, highFirst}
 use Rattle.frame_rules.specs.Frame.{moduleOf, groupOf}
 use Rattle.memory_address.specs.Rule.{ruled}
 use Rattle.memory_address.specs.declared.Module.{Module}
@@ -116,7 +116,7 @@ handledHere InProgramming m = isProgramming m
 
 -- 0x030: "D0 D1 D2 is the address, high byte first, D5 the command."
 abbrev pub addressIn : List ℕ → ℕ
-addressIn f = D 0 f * 65536 + D 1 f * 256 + D 2 f
+addressIn f = highFirst (D 0 f) (D 1 f) (D 2 f)
 
 abbrev pub ruledIn : List ℕ → Ruled
 ruledIn f = ruled (addressIn f) (D 5 f)

@@ -4,7 +4,8 @@ use mathlib.Core.Path.{_≡_}
 use mathlib.Core.List.{List, [], _∷_, _++_}
 use lib.ListN.{replicate}
 use Rattle.node_rules.specs.declared.Node.{Node}
-use Rattle.node_rules.specs.Step.{Step, canStep}
+use Rattle.node_rules.specs.declared.Memory.{Memory}
+use Rattle.node_rules.specs.Step.{Step, canStep, flashAfter, eepromAfter}
 use Rattle.node_rules.specs.Record.{holding}
 use Rattle.node_rules.specs.Uart.{UartStep, uartStep, silent}
 
@@ -58,3 +59,12 @@ AllTen flash eeprom (s ∷ ss) =
 abbrev pub NoStart : List ℕ → Type 0
 NoStart [] = Unit {0}
 NoStart (b ∷ bs) = (b ≡ 0xAA → ⊥) × NoStart bs
+
+-- effects on the memories one after the other, each with its own data
+abbrev pub flashAfterAll : List (Memory × List ℕ) → List ℕ → List ℕ
+flashAfterAll [] flash = flash
+flashAfterAll (c ∷ cs) flash = flashAfterAll cs (flashAfter (c .0) (c .1) flash)
+
+abbrev pub eepromAfterAll : List (Memory × List ℕ) → List ℕ → List ℕ
+eepromAfterAll [] eeprom = eeprom
+eepromAfterAll (c ∷ cs) eeprom = eepromAfterAll cs (eepromAfter (c .0) (c .1) eeprom)

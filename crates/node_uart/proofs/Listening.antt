@@ -22,11 +22,11 @@ use Rattle.node_rules.specs.declared.Receiver.{Receiver}
 use Rattle.node_rules.specs.declared.Node.{Node}
 use Rattle.node_rules.specs.declared.Answer.{Answer}
 use Rattle.node_rules.specs.declared.UartAnswer.{UartAnswer}
-use Rattle.node_rules.specs.Record.{padded, receiving, holding, heldOf, tidied}
+use Rattle.node_rules.specs.Record.{padded, receiving, holding, heldOf, tidied, Holdable}
 use Rattle.node_rules.specs.Outcomes.{isDeaf}
 use Rattle.node_rules.specs.Step.{after, done, canStep}
 use Rattle.node_rules.specs.Uart.{UartStep, uartAfter, heldWith, incomplete, isClosed, heldAfterBad, onUart, viaUart, uartStep, silentOnUart, silent}
-use Rattle.node_rules.proofs.Tidying.{Holdable, held-holdable, holdable-few, still-held, tidied-mode}
+use Rattle.node_rules.proofs.Tidying.{held-holdable, holdable-few, still-held, tidied-mode}
 use Rattle.node_rules.proofs.Agreement.{with-byte, byte-tidied}
 use Rattle.node_record.proofs.Tidied.{withReceiver}
 

@@ -11,7 +11,7 @@ use lib.Seq.{drop-drop}
 use Rattle.base.specs.Parts.{part}
 use Rattle.recipe.specs.Items.{Item, block, row, Recipe, Legal, LegalItem, LegalItems}
 use Rattle.recipe.proofs.Inside.{block-inside}
-use Rattle.recipe.specs.Frames.{addressFrame, dataFrame, leaveFrame, writes, itemFrames, itemsFrames, framesOf, joined, itemCount, itemsCount, frameCount}
+use Rattle.recipe.specs.Frames.{addressFrame, dataFrame, leaveFrame, writes, itemFrames, itemsFrames, framesOf, joined, itemCount, itemsCount, frameCount, Twelve}
 
 -- ---- a Block's frames, counted from 0
 
@@ -109,11 +109,6 @@ unfolding framesOf frameCount
 count-frames r =
     length-append (itemsFrames (r .moduleNumber) (r .groupNumber) (r .items)) (leaveFrame (r .moduleNumber) (r .groupNumber) ∷ [])
     ∙ ap (λ (n : ℕ). n + 1) (items-count (r .moduleNumber) (r .groupNumber) (r .items))
-
--- frames of twelve bytes each
-abbrev pub Twelve : List (List ℕ) → Type 0
-Twelve [] = Unit {0}
-Twelve (f ∷ fs) = (length f ≡ 12) × Twelve fs
 
 twelve-append : (fs gs : List (List ℕ)) → Twelve fs → Twelve gs → Twelve (fs ++ gs)
 twelve-append [] gs h k = k

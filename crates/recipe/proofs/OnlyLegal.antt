@@ -12,10 +12,10 @@ use lib.Dec.{ltb, eqb}
 use lib.ListN.{length, take, drop, take-append-drop}
 use lib.Seq.{drop-drop}
 use borrow.Author.Tests.{ltb-false, eqb-true, ne-eqb, not-false}
-use Rattle.base.proofs.Bytes.{Bytes, bytes-take, bytes-drop}
+use Rattle.base.proofs.Bytes.{bytes-take, bytes-drop}
 use Rattle.base.proofs.Choice.{either-true}
 use Rattle.base.proofs.Patched.{part-length}
-use Rattle.base.specs.Parts.{part}
+use Rattle.base.specs.Parts.{part, Bytes}
 use Rattle.recipe.specs.Items.{Item, block, row, Legal, LegalItem, LegalItems, addressBytes, printedItem, printedItems, printed}
 use Rattle.recipe.specs.Faults.{kindOf, known, addressOf, outOfPlace, faultAt}
 use Rattle.recipe.specs.Reading.{Reading, Stop, atEnd, fault, sizeOf, itemsAt, behind, readFrom, reading, recipeOf}

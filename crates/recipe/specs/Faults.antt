@@ -1,9 +1,10 @@
 -- Which refusal, and where. Document 01, "The recipe": "The first item at fault decides; at an item: 25 .. 21 .. 23 .. 22 .. 24".
-use Prim.Native.Nat.{ℕ, _+_, _*_}
+use Prim.Native.Nat.{ℕ, _+_}
 use mathlib.Core.Bool.{Bool, false, _||_, cond, not}
 use mathlib.Core.List.{List, [], _∷_}
 use lib.Dec.{ltb, eqb}
 use lib.ListN.{length, getD}
+use Rattle.base.specs.Parts.{highFirst}
 use Rattle.memory_address.specs.Rule.{legalFlash, legalEeprom}
 
 -- "One byte of kind": of the item that `input` starts with
@@ -20,7 +21,7 @@ bodyLength kind = cond (eqb kind 0x01) 2 (cond (eqb kind 0x02) 67 (cond (eqb kin
 
 -- the address that a Block or a Row starts its body with, high byte first
 abbrev pub addressOf : List ℕ → ℕ
-addressOf input = getD input 1 0 * 65536 + getD input 2 0 * 256 + getD input 3 0
+addressOf input = highFirst (getD input 1 0) (getD input 2 0) (getD input 3 0)
 
 -- "Open is first and once, Leave last and once": out of place is Open behind the first item, anything else as the first item, and
 -- "anything after Leave"

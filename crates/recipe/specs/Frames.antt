@@ -1,7 +1,8 @@
 -- The frames that a recipe becomes, and how many. Document 01, "The recipe" and "Requests and replies" (0x020, 0x030, 0x040).
 use Prim.Native.Nat.{ℕ, zero, suc, _+_}
+use mathlib.Core.Path.{_≡_}
 use mathlib.Core.List.{List, [], _∷_, _++_}
-use lib.ListN.{take, drop, replicate}
+use lib.ListN.{length, take, drop, replicate}
 use Rattle.recipe.specs.Items.{Item, block, row, Recipe, addressBytes}
 
 -- "0x030 ..: D0 D1 D2 is the address, high byte first, D5 the command", "Unused frame bytes are 0xFF"
@@ -38,6 +39,11 @@ framesOf r = itemsFrames (r .moduleNumber) (r .groupNumber) (r .items) ++ (leave
 unfoldable pub joined : List (List ℕ) → List ℕ
 joined [] = []
 joined (f ∷ fs) = f ++ joined fs
+
+-- each has 12 bytes
+abbrev pub Twelve : List (List ℕ) → Type 0
+Twelve [] = Unit {0}
+Twelve (f ∷ fs) = (length f ≡ 12) × Twelve fs
 
 -- the frame count: the sum over the kinds
 abbrev pub itemCount : Item → ℕ

@@ -5,7 +5,7 @@ use mathlib.Core.Bool.{true}
 use mathlib.Core.List.{List, [], _∷_, _++_}
 use Prim.Native.Nat.{ℕ, _/_, _%_, _≤_, _<_}
 use lib.ListN.{length}
-use Rattle.base.proofs.Bytes.{Bytes}
+use Rattle.base.specs.Parts.{Bytes}
 use Rattle.memory_address.specs.Rule.{legalFlash, legalEeprom}
 
 -- "0x02 Block: address 3, data 64", "0x03 Row: EEPROM address 3, data 8"

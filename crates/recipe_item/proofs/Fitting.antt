@@ -19,7 +19,7 @@ use Rattle.recipe.specs.Frames.{leaveFrame, itemFrames, itemsFrames, joined, it
 use Rattle.recipe.specs.Faults.{kindOf, addressOf}
 use Rattle.recipe.specs.Reading.{sizeOf, itemsAt}
 use Rattle.recipe.proofs.Framing.{Sized, item-bytes}
-use Rattle.recipe_item.specs.Emitted.{framesOfKind, framesAt, putAt, itemPut}
+use Rattle.recipe_item.specs.Internal.Emitted.{framesOfKind, framesAt, framesPut, itemPut}
 use Rattle.recipe_item.proofs.Putting.{patch-none}
 
 -- the kind of what stands at a place
@@ -71,17 +71,17 @@ module _ (m g : ℕ) (t : List ℕ) (whole : sizeOf t ≤ length t) where
   -- with room they are put
   pub put-whole : (o : List ℕ) (pos : ℕ) → pos + 12 * framesOfKind (kindOf t) ≤ length o
       → itemPut m g t o pos ≡ patch o pos (joined (framesAt m g t))
-  unfolding putAt
+  unfolding framesPut
   put-whole o pos h = rw (le-ltb (length o) (pos + length (joined (framesAt m g t))) (omega (arith, there-bytes)))
 
   -- without they are not
   put-short : (o : List ℕ) (pos : ℕ) → length o < pos + 12 * framesOfKind (kindOf t) → itemPut m g t o pos ≡ o
-  unfolding putAt
+  unfolding framesPut
   put-short o pos h = rw (lt-ltb (length o) (pos + length (joined (framesAt m g t))) (omega (arith, there-bytes)))
 
 -- nothing to be put
-put-none : (o : List ℕ) (pos : ℕ) → putAt o pos [] ≡ o
-unfolding putAt
+put-none : (o : List ℕ) (pos : ℕ) → framesPut o pos [] ≡ o
+unfolding framesPut
 put-none o pos =
     ap (λ (l : List ℕ). cond (ltb (length o) (pos + 0)) o l) (patch-none o pos) ∙ cond-same (ltb (length o) (pos + 0)) o
 
@@ -184,4 +184,4 @@ module _ (m g : ℕ) (s : List ℕ) (place : ℕ) (o : List ℕ) (pos : ℕ) whe
       let none : framesAt m g there ≡ [] =
       no-frames m g there (ne-eqb (kindOf there) 2 (λ e. b (sym (kind-at s place) ∙ e)))
       (ne-eqb (kindOf there) 3 (λ e. r (sym (kind-at s place) ∙ e))) (ne-eqb (kindOf there) 15 (λ e. l (sym (kind-at s place) ∙ e))) in
-      sym (ap (λ (fs : List (List ℕ)). putAt o pos (joined fs)) none ∙ put-none o pos)
+      sym (ap (λ (fs : List (List ℕ)). framesPut o pos (joined fs)) none ∙ put-none o pos)

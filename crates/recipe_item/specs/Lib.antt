@@ -1,1 +1,1 @@
-pub mod Emitted
+pub mod Internal

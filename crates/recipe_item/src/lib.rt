@@ -7,7 +7,7 @@ ghost use mathlib.Core.Path.{_≡_};
 ghost use Prim.Native.Nat.{_+_};
 ghost use lib.Dec.{leb};
 ghost use lib.ListN.{drop};
-ghost use Rattle.recipe_item.specs.Emitted.{itemPut};
+ghost use Rattle.recipe_item.specs.Internal.Emitted.{itemPut};
 use memory_address::EepromPlace;
 use memory_address::FlashAddress;
 use memory_address::Group;

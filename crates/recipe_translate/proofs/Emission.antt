@@ -11,7 +11,7 @@ use lib.Dec.{eqb, ltb}
 use lib.ListN.{length, drop, getD}
 use Rattle.base.specs.Parts.{patch}
 use Rattle.base.proofs.Choice.{true-or-false}
-use Rattle.recipe_item.specs.Emitted.{framesOfKind, framesAt, itemPut}
+use Rattle.recipe_item.specs.Internal.Emitted.{framesOfKind, framesAt, itemPut}
 use Rattle.recipe_item.proofs.Putting.{Sent, sent-start, sent-more, sent-end, sent-long}
 use Rattle.recipe_item.proofs.Fitting.{leave-frames, other-frames, there-bytes, put-whole}
 use Rattle.recipe.specs.Items.{Item}
@@ -21,7 +21,7 @@ use Rattle.recipe.specs.Reading.{Reading, atEnd, fault, sizeOf, itemsAt, readFr
 use Rattle.recipe.proofs.Order.{faultless}
 use Rattle.recipe.proofs.Framing.{items-append, joined-append}
 use Rattle.recipe_translate.specs.declared.cursor.Cursor.{Cursor}
-use Rattle.recipe_translate.specs.Steps.{readOn, leaveLeft, nextOf, AtItem}
+use Rattle.recipe_translate.specs.Internal.Steps.{readOn, leaveLeft, nextOf, AtItem}
 use Rattle.recipe_translate.proofs.Walking.{Stands, Kept, kept-start, kept-next, counted, stands-next, not-ended, at-item, on-end, on-fault, on-next}
 
 -- the frames of what was read, one behind the other, and Leave's where it is still to come

@@ -9,9 +9,9 @@ use lib.ListN.{length, getD, drop, length-drop}
 use Rattle.recipe.specs.Faults.{kindOf, known, bodyLength, addressOf, outOfPlace, addressIllegal, faultAt}
 use Rattle.recipe.specs.Reading.{sizeOf}
 use Rattle.recipe_translate.specs.declared.cursor.Cursor.{Cursor}
-use Rattle.recipe_item.specs.Emitted.{framesOfKind}
+use Rattle.recipe_item.specs.Internal.Emitted.{framesOfKind}
 use Rattle.recipe_item.proofs.Fitting.{kind-at}
-use Rattle.recipe_translate.specs.Steps.{nextOf}
+use Rattle.recipe_translate.specs.Internal.Steps.{nextOf}
 use Rattle.recipe.proofs.Order.{item-2049, unknown-kind, out-of-place, cut-short, address-illegal, no-fault}
 
 -- the code's tests in their order, each with those before it: which number is given

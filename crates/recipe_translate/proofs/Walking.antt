@@ -12,7 +12,7 @@ use lib.ListN.{length, drop, length-drop}
 use lib.Seq.{drop-drop}
 use borrow.Author.Tests.{eqb-true}
 use Rattle.base.proofs.Choice.{by-cond, true-or-false}
-use Rattle.recipe_item.specs.Emitted.{framesOfKind}
+use Rattle.recipe_item.specs.Internal.Emitted.{framesOfKind}
 use Rattle.recipe.specs.declared.Translated.the-variants.{Frames, Refused}
 use Rattle.recipe.specs.Items.{Item}
 use Rattle.recipe.specs.Frames.{itemCount, itemsCount, frameCount}
@@ -22,7 +22,7 @@ use Rattle.recipe.specs.Translation.{answerAt, checked}
 use Rattle.recipe.proofs.Order.{faultless}
 use Rattle.recipe.proofs.Steps.{read-end, read-fault, read-on}
 use Rattle.recipe_translate.specs.declared.cursor.Cursor.{Cursor}
-use Rattle.recipe_translate.specs.Steps.{readOn, leaveLeft, nextOf, AtItem}
+use Rattle.recipe_translate.specs.Internal.Steps.{readOn, leaveLeft, nextOf, AtItem}
 
 -- the frames of what stands there are those of its kind, and Leave's is still to come or not
 count-there : (input : List ℕ) → itemsCount (itemsAt input) + 1 ≡ framesOfKind (kindOf input) + leaveLeft (eqb (kindOf input) 0x0F)

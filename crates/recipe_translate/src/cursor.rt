@@ -3,7 +3,7 @@ ghost use mathlib.Core.Path.{_≡_};
 ghost use Prim.Native.Nat.{_<_};
 ghost use lib.ListN.{length, drop};
 ghost use Rattle.recipe.specs.Faults.{faultAt};
-ghost use Rattle.recipe_translate.specs.Steps.{nextOf, AtItem};
+ghost use Rattle.recipe_translate.specs.Internal.Steps.{nextOf, AtItem};
 
 // Where a reading stands: the place, the number of the item there, whether Leave has come, and the frames of the items before it.
 pub struct Cursor {

@@ -2,7 +2,7 @@
 ghost use mathlib.Core.Path.{_≡_};
 ghost use Prim.Native.Nat.{_<_};
 ghost use Rattle.recipe.specs.Faults.{known, bodyLength, outOfPlace, addressIllegal};
-ghost use Rattle.recipe_item.specs.Emitted.{framesOfKind};
+ghost use Rattle.recipe_item.specs.Internal.Emitted.{framesOfKind};
 use memory_address::EepromPlace;
 use memory_address::FlashAddress;
 

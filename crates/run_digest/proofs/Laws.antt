@@ -8,7 +8,7 @@ use native.Mathlib.Numerals.{add-one}
 use native.Mathlib.Omega.{arith}
 use lib.ListN.{length, getD, drop}
 use lib.Seq.{drop-cons}
-use Rattle.run_digest.specs.Digest.{oneMore, digestOf}
+use Rattle.run_digest.specs.Internal.Digest.{oneMore, digestOf}
 
 -- a digest may be taken modulo 4,294,967,291 before it is multiplied
 pub low-first : (d b : ℕ) → (d % 4294967291 * 31 + b + 1) % 4294967291 ≡ oneMore d b

@@ -1,6 +1,6 @@
 // How the long runs write bytes down (second/PROTOCOL.md): their digest.
 ghost use mathlib.Core.Path.{_≡_};
-ghost use Rattle.run_digest.specs.Digest.{oneMore, digestOf};
+ghost use Rattle.run_digest.specs.Internal.Digest.{oneMore, digestOf};
 
 // The digest d with one byte more. Taken modulo 4,294,967,291 first, it can't pass 64 bits.
 fn with_byte(d: u64, b: u8) -> u64

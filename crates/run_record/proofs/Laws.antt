@@ -10,7 +10,7 @@ use Rattle.base.proofs.Listed.{listed-part, listed-all}
 use Rattle.node_rules.specs.declared.Mode.{Mode}
 use Rattle.node_rules.specs.declared.Node.{Node}
 use Rattle.node_rules.specs.Requests.{stagedIn}
-use Rattle.run_record.specs.Record.{pinByte, modeByte, stagedByte, kindByte, addressOf, fourBytes, modeBytes, nodeBytes}
+use Rattle.run_record.specs.Internal.Record.{pinByte, modeByte, stagedByte, kindByte, addressOf, fourBytes, modeBytes, nodeBytes}
 
 -- the mode's bytes
 pub mode-written : (mode : Mode) (m s k a : ℕ) → m ≡ modeByte mode → s ≡ stagedByte (stagedIn mode) → k ≡ kindByte (stagedIn mode)

@@ -1,7 +1,7 @@
 // The end of the record: the mode, what is staged, and its address.
 ghost use mathlib.Core.Path.{_≡_};
 ghost use Rattle.node_rules.specs.Requests.{stagedIn};
-ghost use Rattle.run_record.specs.Record.{modeByte, stagedByte, kindOf, kindByte, numberOf, addressOf};
+ghost use Rattle.run_record.specs.Internal.Record.{modeByte, stagedByte, kindOf, kindByte, numberOf, addressOf};
 use memory_address::Address;
 use node_rules::Mode;
 use node_rules::Staged;

@@ -2,7 +2,7 @@
 mod last;
 
 ghost use mathlib.Core.Path.{_≡_};
-ghost use Rattle.run_record.specs.Record.{pinByte, nodeBytes};
+ghost use Rattle.run_record.specs.Internal.Record.{pinByte, nodeBytes};
 use node_rules::Node;
 use node_rules::Pin;
 

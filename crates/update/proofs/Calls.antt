@@ -9,7 +9,7 @@ use native.Mathlib.Omega.{arith}
 use lib.Dec.{ltb}
 use lib.ListN.{length, drop}
 use borrow.Author.Tests.{ltb-true, ltb-false}
-use Rattle.base.proofs.Bytes.{Bytes}
+use Rattle.base.specs.Parts.{Bytes}
 use Rattle.node_rules.specs.declared.Mode.the-variants.{Waiting}
 use Rattle.node_rules.specs.declared.Node.{Node}
 use Rattle.node_rules.specs.Record.{withMode, tidied}

@@ -6,8 +6,8 @@ use Prim.Native.Nat.{ℕ}
 use lib.ListN.{length, take, drop}
 use lib.Seq.{take-at, drop-at}
 use Rattle.recipe.specs.Items.{Recipe, Legal}
-use Rattle.recipe.specs.Frames.{framesOf, joined, frameCount}
-use Rattle.recipe.proofs.Framing.{Twelve, frames-twelve, count-frames}
+use Rattle.recipe.specs.Frames.{framesOf, joined, frameCount, Twelve}
+use Rattle.recipe.proofs.Framing.{frames-twelve, count-frames}
 use Rattle.update_deliver.specs.Taken.{firstFrames}
 
 taken-back : (frames : List (List ℕ)) (rest : List ℕ) → Twelve frames → firstFrames (length frames) (joined frames ++ rest) ≡ frames

@@ -19,7 +19,8 @@ use Rattle.recipe.specs.Translation.{checked, translated}
 use Rattle.recipe.proofs.Accepts.{accepts-legal, output-legal, short-output}
 use Rattle.recipe.proofs.Answers.{refusal-first}
 use Rattle.update_rules.specs.Delivery.{Delivery, delivered}
-use Rattle.update_deliver.specs.Delivering.{Left, handedBy, handedOver, roomFor, left, afterHandOver, deliverBy, deliverStep}
+use Rattle.update_deliver.specs.Delivering.{Left, roomFor, left, deliverBy, deliverStep}
+use Rattle.update_deliver.specs.Internal.Handing.{handedBy, handedOver, afterHandOver}
 use Rattle.update_rules.specs.Updated.{Ready, Full}
 use Rattle.update.specs.Whole.{wholly}
 use Rattle.update_rules.proofs.DemandThree.{demand-three}

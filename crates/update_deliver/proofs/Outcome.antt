@@ -18,7 +18,8 @@ use Rattle.recipe.specs.declared.Translated.the-variants.{Frames, Refused}
 use Rattle.recipe.specs.Frames.{framesOf, joined}
 use Rattle.recipe.specs.Reading.{recipeOf}
 use Rattle.recipe.specs.Translation.{unlessShort, checked, translated, outputAfter, translatedOutput}
-use Rattle.update_deliver.specs.Delivering.{handed, handedOver, roomFor, left, afterHandOver, deliverBy, deliverStep}
+use Rattle.update_deliver.specs.Delivering.{roomFor, left, deliverBy, deliverStep}
+use Rattle.update_deliver.specs.Internal.Handing.{handed, handedOver, afterHandOver}
 
 -- the room lies within the frames, and within the answers at 14 bytes a frame
 pub room-within : (f a : ℕ) → (roomFor f a ≤ f) × (roomFor f a ≤ 12 * (a / 14))
@@ -105,7 +106,7 @@ module _ (input : List ℕ) (n : Node) (flash eeprom frames answers : List ℕ) 
           → handed n′ flash′ eeprom′ answers′ ≡ handedOver count (output ++ drop (room - 0) frames) n flash eeprom answers
           → left (record { translated = Frames count; node = n′; count = count }) flash′ eeprom′ (output ++ drop (room - 0) frames) answers′
           ≡ deliverStep input n flash eeprom frames answers
-      unfolding deliverStep
+      unfolding deliverStep handedOver
       step-done n′ flash′ eeprom′ answers′ k =
           let same : output ++ drop (room - 0) frames ≡ outputAfter (Frames count) input frames =
           frames-are ∙ ap (λ (x : Translated). outputAfter x input frames) h in

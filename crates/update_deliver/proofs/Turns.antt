@@ -18,7 +18,7 @@ use Rattle.recipe.proofs.Framing.{joined-append}
 use Rattle.update_rules.specs.Delivery.{Delivery, told, behind, delivered}
 use Rattle.update_rules.proofs.Deliveries.{frame-first}
 use Rattle.update_deliver.specs.Taken.{firstFrames}
-use Rattle.update_deliver.specs.Delivering.{handed, handedBy, handedOver}
+use Rattle.update_deliver.specs.Internal.Handing.{handed, handedBy, handedOver}
 
 -- a piece put behind what is written
 put-behind : (w o t : List ℕ) (to : ℕ) → length w ≡ to → length t ≡ 14 → patch (w ++ drop to o) to t ≡ (w ++ t) ++ drop (to + 14) o

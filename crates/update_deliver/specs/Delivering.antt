@@ -13,24 +13,6 @@ use Rattle.update_deliver.specs.declared.Delivered.{Delivered}
 use Rattle.update_rules.specs.Delivery.{Delivery, delivered}
 use Rattle.update_deliver.specs.Taken.{firstFrames}
 
--- the node, the memories and the answers after frames were handed over
-pub record Handed : Type 0 where
-  pub node : Node
-  pub flash : List ℕ
-  pub eeprom : List ℕ
-  pub answers : List ℕ
-
-abbrev pub handed : Node → List ℕ → List ℕ → List ℕ → Handed
-handed n flash eeprom answers = record { node = n; flash = flash; eeprom = eeprom; answers = answers }
-
--- what is told of each answer, 14 bytes each, one behind the other; bytes behind the last stay
-abbrev pub handedBy : Delivery → ℕ → List ℕ → Handed
-handedBy d count answers = handed (d .node) (d .flash) (d .eeprom) (joined (d .answers) ++ drop (14 * count) answers)
-
--- the first `count` frames of a buffer handed over
-unfoldable pub handedOver : ℕ → List ℕ → Node → List ℕ → List ℕ → List ℕ → Handed
-handedOver count frames n flash eeprom answers = handedBy (delivered (firstFrames count frames) n flash eeprom) count answers
-
 -- the room for frames: no more than are lent, and no more than the answers have room for, 14 bytes a frame
 unfoldable pub roomFor : ℕ → ℕ → ℕ
 roomFor frames answers = cond (ltb (12 * (answers / 14)) frames) (12 * (answers / 14)) frames
@@ -46,18 +28,20 @@ pub record Left : Type 0 where
 abbrev pub left : Delivered → List ℕ → List ℕ → List ℕ → List ℕ → Left
 left r flash eeprom frames answers = record { result = r; flash = flash; eeprom = eeprom; frames = frames; answers = answers }
 
--- after the hand-over of `count` frames, which stand in `frames`
-abbrev pub afterHandOver : ℕ → List ℕ → Handed → Left
-afterHandOver count frames h =
-    left (record { translated = Frames count; node = h .node; count = count }) (h .flash) (h .eeprom) frames (h .answers)
+-- after the delivery d of the `count` frames that stand in `frames`: what is told of each answer, 14 bytes, one behind the other; bytes behind
+-- the last stay
+abbrev pub leftBy : ℕ → List ℕ → Delivery → List ℕ → Left
+leftBy count frames d answers =
+    left (record { translated = Frames count; node = d .node; count = count }) (d .flash) (d .eeprom) frames
+    (joined (d .answers) ++ drop (14 * count) answers)
 
--- a refused recipe touches nothing; else the frames are written, and handed over
+-- a refused recipe touches nothing, and the node comes back as it was handed in; else the frames are written, and handed over
 abbrev pub deliverBy : Translated → List ℕ → Node → List ℕ → List ℕ → List ℕ → List ℕ → Left
 deliverBy (Refused number place) recipe n flash eeprom frames answers =
     left (record { translated = Refused number place; node = n; count = 0 }) flash eeprom frames answers
 deliverBy (Frames count) recipe n flash eeprom frames answers =
-    afterHandOver count (outputAfter (Frames count) recipe frames)
-    (handedOver count (outputAfter (Frames count) recipe frames) n flash eeprom answers)
+    let written = outputAfter (Frames count) recipe frames in
+    leftBy count written (delivered (firstFrames count written) n flash eeprom) answers
 
 unfoldable pub deliverStep : List ℕ → Node → List ℕ → List ℕ → List ℕ → List ℕ → Left
 deliverStep recipe n flash eeprom frames answers =

@@ -3,7 +3,7 @@ ghost use mathlib.Core.Path.{_≡_};
 ghost use Prim.Native.Nat.{_+_, _*_, _≤_};
 ghost use lib.ListN.{length};
 ghost use Rattle.base.specs.Parts.{patch};
-ghost use Rattle.update_deliver.specs.Delivering.{handed, handedOver};
+ghost use Rattle.update_deliver.specs.Internal.Handing.{handed, handedOver};
 use node_rules::Node;
 
 // Puts what is told of an answer into the output at a byte.

@@ -2,9 +2,10 @@
 -- delivery is one fold over the frames, so each law is that of the fold. And what none changes, frame by frame.
 -- Assumes nothing.
 use mathlib.Core.Path.{_≡_, _∙_, refl, sym, ap}
+use mathlib.Core.Bool.{true}
 use mathlib.Core.List.{List, [], _∷_, _++_}
 use Prim.Native.Nat.{ℕ, suc}
-use lib.ListN.{length, take, drop}
+use lib.ListN.{length, getD, take, drop}
 use lib.Seq.{take-at, drop-at}
 use Rattle.node_rules.specs.declared.Node.{Node}
 use Rattle.node_rules.specs.declared.Next.{Next}
@@ -13,9 +14,10 @@ use Rattle.node_rules.specs.Record.{tidied}
 use Rattle.node_rules.specs.Outcomes.{decided}
 use Rattle.node_rules.specs.Step.{Step, nodeAfter, done, canStep}
 use Rattle.node_rules.specs.Runs.{State, state, behindFrame}
-use Rattle.node_rules.proofs.Spoiling.{can-lengths}
+use Rattle.node_rules.proofs.Spoiling.{can-lengths, can-protected}
 use Rattle.memory_address.specs.Places.{full}
-use Rattle.update_rules.specs.Delivery.{told, Delivery, delivery, behindFrames, delivered, Delivers, behind, Parted, Lasting}
+use Rattle.memory_address.specs.Rule.{protected}
+use Rattle.update_rules.specs.Delivery.{told, Delivery, delivery, behindFrames, delivered, Delivers, behind}
 
 -- a frame handed to what stands
 abbrev pub stepAt : State → List ℕ → Step
@@ -23,6 +25,19 @@ stepAt s f = canStep (s .node) f (s .flash) (s .eeprom)
 
 abbrev pub deliveredAt : List (List ℕ) → State → Delivery
 deliveredAt frames s = delivered frames (s .node) (s .flash) (s .eeprom)
+
+-- a delivery taken apart: what stands between the first frames and the others
+pub record Parted (first others : List (List ℕ)) (before : State) (answers : List (List ℕ)) (after : State) : Type 0 where
+  pub between : State
+  pub firstly : Delivers first before (take (length first) answers) between
+  pub then : Delivers others between (drop (length first) answers) after
+
+-- what no delivery changes: the plate with the own numbers and the fixed bytes, what was chosen, and the memories' lengths
+pub record Lasting (before after : State) : Type 0 where
+  pub samePlate : after .node .plate ≡ before .node .plate
+  pub sameChoices : after .node .choices ≡ before .node .choices
+  pub flashLength : length (after .flash) ≡ length (before .flash)
+  pub eepromLength : length (after .eeprom) ≡ length (before .eeprom)
 
 -- nothing delivered
 pub nothing : (s : State) → Delivers [] s [] s
@@ -129,3 +144,13 @@ kept-by (f ∷ fs) s =
 pub delivery-keeps : (fs : List (List ℕ)) (before : State) (answers : List (List ℕ)) (after : State) → Delivers fs before answers after
     → Lasting before after
 delivery-keeps fs before answers after p = rw (stands-after fs before answers after p) at (kept-by fs before)
+
+-- nor a protected cell of FLASH
+spared-by : (fs : List (List ℕ)) (s : State) (i : ℕ) → protected i ≡ true → getD (behindFrames fs s .flash) i 0 ≡ getD (s .flash) i 0
+spared-by [] s i p = refl
+spared-by (f ∷ fs) s i p =
+    spared-by fs (behindFrame (stepAt s f)) i p ∙ can-protected (s .node) f (s .flash) (s .eeprom) i p
+
+pub delivery-spares : (fs : List (List ℕ)) (before : State) (answers : List (List ℕ)) (after : State) → Delivers fs before answers after
+    → (i : ℕ) → protected i ≡ true → getD (after .flash) i 0 ≡ getD (before .flash) i 0
+delivery-spares fs before answers after c i p = rw (stands-after fs before answers after c) at (spared-by fs before i p)

@@ -14,7 +14,7 @@ use Rattle.node_rules.specs.declared.Mode.the-variants.{Programming, Waiting}
 use Rattle.node_rules.specs.declared.Node.{Node}
 use Rattle.node_rules.specs.Record.{withMode, tidied, legalStaged}
 use Rattle.node_rules.specs.Step.{Step}
-use Rattle.node_rules.specs.Runs.{behindFrame}
+use Rattle.node_rules.specs.Runs.{State, state, behindFrame}
 use Rattle.node_rules.proofs.TidiedOnce.{programming, tidied-legal}
 use Rattle.node_rules.proofs.Pairs.{tidied-first, leaves-programming}
 use Rattle.recipe.specs.Items.{Item, Recipe, Legal, LegalItems}
@@ -22,9 +22,9 @@ use Rattle.recipe.specs.Frames.{leaveFrame, itemsFrames, framesOf, frameCount}
 use Rattle.recipe.specs.Plain.{Memories, plainItems, plainLeave, plainly}
 use Rattle.recipe.proofs.Framing.{count-frames}
 use Rattle.recipe.proofs.Plainly.{plain-items-sizes}
-use Rattle.update_rules.specs.Delivery.{told, delivered, Delivers, behind}
-use Rattle.update_rules.specs.Mirror.{mirrored, silent, answersOf}
-use Rattle.update_rules.specs.Updated.{Ready, over, Full, updated}
+use Rattle.update_rules.specs.Delivery.{told, Delivery, delivered, Delivers, behind}
+use Rattle.update_rules.specs.Mirror.{mirrored, nothingTold, answersOf}
+use Rattle.update_rules.specs.Updated.{Ready, over, Full, leftWhole, updated, Arrived}
 use Rattle.update_rules.proofs.Deliveries.{deliveredAt, frame-first, one, one-behind-another}
 use Rattle.update_rules.proofs.Items.{items-carry}
 
@@ -40,7 +40,7 @@ tidied-delivered n s m e full (frame ∷ frames) some =
 
 -- "Leave: one 0x020"
 pub leave-delivered : (n : Node) (m : Memories) → Full m → (s : Staged) → legalStaged s ≡ true
-    → Delivers (leaveFrame (n .plate .own .0) (n .plate .group .0) ∷ []) (over (programming n s) m) (silent ∷ [])
+    → Delivers (leaveFrame (n .plate .own .0) (n .plate .group .0) ∷ []) (over (programming n s) m) (nothingTold ∷ [])
     (over (withMode (tidied n) Waiting) (plainLeave m))
 leave-delivered n m full s h =
     one (over (programming n s) m) (leaveFrame (n .plate .own .0) (n .plate .group .0)) _
@@ -56,7 +56,7 @@ own-numbers n items s m each h full =
     let leave = leaveFrame (n .plate .own .0) (n .plate .group .0) in
     let fs = itemsFrames (n .plate .own .0) (n .plate .group .0) items in
     one-behind-another fs (leave ∷ []) (over (programming n s) m) (over (programming n (first .staged)) (plainItems items m))
-    (over (withMode (tidied n) Waiting) (plainLeave (plainItems items m))) (map mirrored fs) (silent ∷ []) (first .delivers)
+    (over (withMode (tidied n) Waiting) (plainLeave (plainItems items m))) (map mirrored fs) (nothingTold ∷ []) (first .delivers)
     (leave-delivered n (plainItems items m) (sizes .0 ∙ full .0, sizes .1 ∙ full .1) (first .staged) (first .isLegal))
 
 -- the whole update
@@ -74,5 +74,15 @@ demand-three r n m legal ready l k =
 
 -- the same as a delivery from one state to another
 pub whole-delivery : (r : Recipe) (n : Node) (m : Memories) → Legal r → Ready n r → Full m
-    → Delivers (framesOf r) (over n m) (answersOf r) (over (withMode (tidied n) Waiting) (plainly r m))
+    → Delivers (framesOf r) (over n m) (answersOf r) (leftWhole r n m)
 whole-delivery r n m legal ready full = demand-three r n m legal ready (full .0) (full .1)
+
+-- so whatever is told and left, it has arrived whole
+pub delivery-arrives : (r : Recipe) (n : Node) (m : Memories) (answers : List (List ℕ)) (after : State) → Legal r → Ready n r → Full m
+    → Delivers (framesOf r) (over n m) answers after → Arrived r n m answers after
+delivery-arrives r n m answers after legal ready full came =
+    let e = sym came ∙ whole-delivery r n m legal ready full in
+    record {
+      answered = ap (λ (d : Delivery). d .answers) e;
+      stands = ap (λ (d : Delivery). state (d .node) (d .flash) (d .eeprom)) e;
+    }

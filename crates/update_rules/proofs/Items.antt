@@ -22,8 +22,8 @@ use Rattle.recipe.specs.Items.{Item, block, row, LegalItem, LegalItems}
 use Rattle.recipe.specs.Frames.{writes, itemFrames, itemsFrames}
 use Rattle.recipe.specs.Plain.{Memories, plainItem, plainItems}
 use Rattle.recipe.proofs.Plainly.{plain-block, plain-row, plain-item-sizes}
-use Rattle.update_rules.specs.Updated.{Full, Carries}
-use Rattle.update_rules.proofs.Rows.{both, carries-nothing, carries-behind, pair, rows}
+use Rattle.update_rules.specs.Updated.{Full}
+use Rattle.update_rules.proofs.Rows.{both, carries-nothing, carries-behind, pair, rows, Carries}
 
 module _ (n : Node) where
   -- the frames of an item, and of items, to this node

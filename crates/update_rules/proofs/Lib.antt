@@ -8,4 +8,5 @@ pub mod Corollaries
 pub mod Prefixes
 pub mod Interrupted
 pub mod Serially
+pub mod ToldSerially
 pub mod Witnesses

@@ -12,7 +12,7 @@ use Rattle.base.specs.Parts.{part}
 use Rattle.recipe.specs.Items.{Item, block, row, Recipe}
 use Rattle.recipe.specs.Frames.{leaveFrame, itemFrames, itemsFrames, framesOf, itemCount, itemsCount, frameCount}
 use Rattle.recipe.proofs.Framing.{items-count, items-append, item-count, block-erases-data, block-writes-data}
-use Rattle.update_rules.specs.Mirror.{mirrored, silent, answersOf}
+use Rattle.update_rules.specs.Mirror.{mirrored, nothingTold, answersOf, shows}
 
 module _ (r : Recipe) where
   abbrev most : List (List ℕ)
@@ -24,19 +24,19 @@ module _ (r : Recipe) where
   -- as many as frames
   pub answers-many : length (answersOf r) ≡ frameCount r
   unfolding answersOf frameCount
-  answers-many = length-append (map mirrored most) (silent ∷ []) ∙ ap (λ (k : ℕ). k + 1) many
+  answers-many = length-append (map mirrored most) (nothingTold ∷ []) ∙ ap (λ (k : ℕ). k + 1) many
 
   -- the last has no reply
-  pub answers-last : (i : ℕ) → i + 1 ≡ frameCount r → getD (answersOf r) i [] ≡ silent
+  pub answers-last : (i : ℕ) → i + 1 ≡ frameCount r → getD (answersOf r) i [] ≡ nothingTold
   unfolding answersOf frameCount
-  answers-last i e = getD-at (map mirrored most) silent [] [] i (omega (arith, many))
+  answers-last i e = getD-at (map mirrored most) nothingTold [] [] i (omega (arith, many))
 
   -- each other is its frame with the flag set
   pub answers-mirror : (i : ℕ) → i + 1 < frameCount r → getD (answersOf r) i [] ≡ mirrored (getD (framesOf r) i [])
   unfolding answersOf framesOf frameCount
   answers-mirror i h =
       let l : i < length most = omega (arith, items-count (r .moduleNumber) (r .groupNumber) (r .items)) in
-      List·getD-append (map mirrored most) (silent ∷ []) [] i (omega (arith, many))
+      List·getD-append (map mirrored most) (nothingTold ∷ []) [] i (omega (arith, many))
       ∙ within most i l
       ∙ ap mirrored (sym (List·getD-append most (leaveFrame (r .moduleNumber) (r .groupNumber) ∷ []) [] i l))
     where
@@ -80,24 +80,20 @@ module _ (r : Recipe) where
     unfolding frameCount
     item-mirror j h = answers-mirror (itemsCount before + j) (omega (arith, count-before)) ∙ ap mirrored (item-frame j h)
 
-  -- number 0, one reply: 0x040 with flag 1, the recipe's numbers, and these eight cells
-  abbrev pub shows : List ℕ → List ℕ
-  shows cells = 0 ∷ 1 ∷ 0x04 ∷ 0x01 ∷ r .moduleNumber ∷ r .groupNumber ∷ cells
-
   module _ (before after : List Item) (a : ℕ) (d : List ℕ) where
     -- a Block's erase is answered by eight 0xFF, and its write i by its bytes 8 i to 8 i + 7
-    pub erase-shown : r .items ≡ before ++ (block a d ∷ after) → getD (answersOf r) (itemsCount before + 1) [] ≡ shows (replicate 8 0xFF)
+    pub erase-shown : r .items ≡ before ++ (block a d ∷ after) → getD (answersOf r) (itemsCount before + 1) [] ≡ shows r (replicate 8 0xFF)
     erase-shown e =
         item-mirror before after (block a d) e 1 (lit< tt)
         ∙ ap mirrored (block-erases-data (r .moduleNumber) (r .groupNumber) a d)
 
     pub write-shown : r .items ≡ before ++ (block a d ∷ after) → (i : ℕ) → i < 8
-        → getD (answersOf r) (itemsCount before + (3 + 2 * i)) [] ≡ shows (part d (8 * i) 8)
+        → getD (answersOf r) (itemsCount before + (3 + 2 * i)) [] ≡ shows r (part d (8 * i) 8)
     write-shown e i h =
         item-mirror before after (block a d) e (3 + 2 * i) (omega arith)
         ∙ ap mirrored (block-writes-data (r .moduleNumber) (r .groupNumber) a d i h)
 
     -- a Row's write by its eight bytes
-    pub row-shown : r .items ≡ before ++ (row a d ∷ after) → getD (answersOf r) (itemsCount before + 1) [] ≡ shows d
+    pub row-shown : r .items ≡ before ++ (row a d ∷ after) → getD (answersOf r) (itemsCount before + 1) [] ≡ shows r d
     unfolding itemFrames
     row-shown e = item-mirror before after (row a d) e 1 (lit< tt)

@@ -9,8 +9,8 @@ use Prim.Native.Nat.{ℕ, zero, suc, _+_, _*_, _<_}
 use native.Mathlib.Omega.{arith}
 use lib.ListN.{length, take, drop, replicate, length-append, length-take, length-drop, take-append-drop}
 use lib.Seq.{take-at, drop-at, take-append-seam, drop-append-add}
-use Rattle.base.specs.Parts.{part, patch}
-use Rattle.base.proofs.Bytes.{Bytes, bytes-take, bytes-drop}
+use Rattle.base.specs.Parts.{part, patch, Bytes}
+use Rattle.base.proofs.Bytes.{bytes-take, bytes-drop}
 use Rattle.memory_address.specs.Rule.{ruled, legalFlash}
 use Rattle.memory_address.specs.declared.Address.{Address}
 use Rattle.memory_address.specs.declared.Address.the-variants.{Flash}
@@ -29,14 +29,21 @@ use Rattle.node_rules.proofs.TidiedOnce.{programming}
 use Rattle.node_rules.proofs.Pairs.{addressTo, dataTo, showOf, writeFlash, answered, stages, writes-flash}
 use Rattle.recipe.specs.Frames.{writes}
 use Rattle.recipe.specs.Plain.{Memories}
-use Rattle.update_rules.specs.Delivery.{delivery}
+use Rattle.update_rules.specs.Delivery.{delivery, Delivers}
 use Rattle.update_rules.specs.Mirror.{mirrored}
-use Rattle.update_rules.specs.Updated.{over, Carries}
+use Rattle.update_rules.specs.Updated.{over}
 use Rattle.update_rules.proofs.Deliveries.{nothing, one, one-behind-another}
 
 -- two memories
 abbrev pub both : List ℕ → List ℕ → Memories
 both flash eeprom = record { flash = flash; eeprom = eeprom }
+
+-- frames that a programming node with s staged answers each by itself with the flag set, and that leave it programming, with some legal
+-- command staged, over the memories m′
+pub record Carries (n : Node) (frames : List (List ℕ)) (s : Staged) (m m′ : Memories) : Type 0 where
+  pub staged : Staged
+  pub isLegal : legalStaged staged ≡ true
+  pub delivers : Delivers frames (over (programming n s) m) (map mirrored frames) (over (programming n staged) m′)
 
 module _ (n : Node) where
   -- nothing, and one list of such frames behind another

@@ -36,12 +36,12 @@ use Rattle.node_rules.proofs.Ruling.{sizes-full}
 use Rattle.node_rules.proofs.Tidying.{tidy-held}
 use Rattle.node_rules.proofs.Agreement.{wrapped-frame}
 use Rattle.recipe.specs.Items.{Recipe, Legal}
-use Rattle.recipe.specs.Frames.{itemsFrames, framesOf, joined}
+use Rattle.recipe.specs.Frames.{itemsFrames, framesOf, joined, Twelve}
 use Rattle.recipe.specs.Plain.{Memories}
-use Rattle.recipe.proofs.Framing.{Twelve, frames-twelve}
+use Rattle.recipe.proofs.Framing.{frames-twelve}
 use Rattle.update_rules.specs.Delivery.{Delivery, told, behind, delivered}
 use Rattle.update_rules.specs.Serial.{toldOnUart, deliveryOnUart, fed, wrappedAll, incompleteTold, wrappedTold, onSerial, OpenPort, AllDone}
-use Rattle.update_rules.specs.Mirror.{mirrored, silent as nothingTold, answersOf}
+use Rattle.update_rules.specs.Mirror.{mirrored, nothingTold, answersOf}
 use Rattle.update_rules.specs.Updated.{Ready, updated}
 use Rattle.update_rules.proofs.Deliveries.{stepAt, frame-keeps}
 use Rattle.update_rules.proofs.DemandThree.{demand-three}

@@ -11,7 +11,7 @@ use native.Mathlib.Nat.{suc-ne-zero}
 use native.Mathlib.Omega.{arith}
 use lib.Dec.{lit<}
 use lib.ListN.{getD, set, take, replicate, length-set, length-replicate}
-use Rattle.base.proofs.Bytes.{Bytes}
+use Rattle.base.specs.Parts.{Bytes}
 use Rattle.memory_address.specs.Rule.{ruled}
 use Rattle.node_rules.specs.declared.Pin.the-variants.{CanAndUart}
 use Rattle.node_rules.specs.declared.Staged.the-variants.{Nothing}
@@ -28,6 +28,7 @@ use Rattle.update_rules.specs.Mirror.{answersOf}
 use Rattle.update_rules.specs.Updated.{Ready, over, Full}
 use Rattle.update_rules.specs.Serial.{OpenPort}
 use Rattle.update_rules.proofs.Deliveries.{all-delivered}
+use Rattle.update_rules.proofs.DemandThree.{delivery-arrives}
 use Rattle.update_rules.proofs.Corollaries.{last-row, bootfl-ends-zero}
 use Rattle.update_rules.proofs.Interrupted.{again-after-restart}
 
@@ -79,11 +80,11 @@ open-port-met = record { bothPorts = refl; noneHeld = refl; flashFull = full-met
 -- after the delivery cell 0x30 of EEPROM holds 0x41, and BOOTFL 0x00
 pub cells-met : (getD (delivered (framesOf rowRecipe) node (memories .flash) (memories .eeprom) .eeprom) 0x30 0 ≡ 0x41)
     × (getD (delivered (framesOf rowRecipe) node (memories .flash) (memories .eeprom) .eeprom) 0 0 ≡ 0x00)
-unfolding rowRecipe eight
+unfolding rowRecipe eight delivered
 cells-met =
-    let f = full-met in (
-      last-row rowRecipe node memories legal-met ready-met (f .0) (f .1) [] [] 0xF00030 eight 0 (lit< tt) refl tt (suc-ne-zero 47),
-      bootfl-ends-zero rowRecipe node memories legal-met ready-met (f .0) (f .1),
+    let whole = delivery-arrives rowRecipe node memories _ _ legal-met ready-met full-met (all-delivered (framesOf rowRecipe) (over node memories)) in (
+      last-row rowRecipe node memories _ _ legal-met full-met whole [] [] 0xF00030 eight 0 (lit< tt) refl tt (suc-ne-zero 47),
+      bootfl-ends-zero rowRecipe node memories _ _ legal-met full-met whole,
     )
 
 -- what stands after its first frame, and the node that a restart then makes

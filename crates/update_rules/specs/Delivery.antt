@@ -2,7 +2,7 @@
 use Prim.Native.Nat.{ℕ}
 use mathlib.Core.Path.{_≡_}
 use mathlib.Core.List.{List, _∷_, _++_, map}
-use lib.ListN.{length, take, drop}
+use lib.ListN.{take}
 use Rattle.node_rules.specs.declared.Node.{Node}
 use Rattle.node_rules.specs.declared.Answer.{Answer}
 use Rattle.node_rules.specs.Step.{Step}
@@ -38,16 +38,3 @@ Delivers frames before answers after = delivered frames (before .node) (before .
 -- a delivery with answers before its own
 abbrev pub behind : List (List ℕ) → Delivery → Delivery
 behind answers d = record { answers = answers ++ d .answers; node = d .node; flash = d .flash; eeprom = d .eeprom }
-
--- a delivery taken apart: what stands between the first frames and the others
-pub record Parted (first others : List (List ℕ)) (before : State) (answers : List (List ℕ)) (after : State) : Type 0 where
-  pub between : State
-  pub firstly : Delivers first before (take (length first) answers) between
-  pub then : Delivers others between (drop (length first) answers) after
-
--- what no delivery changes: the plate with the own numbers and the fixed bytes, what was chosen, and the memories' lengths
-pub record Lasting (before after : State) : Type 0 where
-  pub samePlate : after .node .plate ≡ before .node .plate
-  pub sameChoices : after .node .choices ≡ before .node .choices
-  pub flashLength : length (after .flash) ≡ length (before .flash)
-  pub eepromLength : length (after .eeprom) ≡ length (before .eeprom)

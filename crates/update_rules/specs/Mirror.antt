@@ -11,8 +11,12 @@ abbrev pub mirrored : List ℕ → List ℕ
 mirrored frame = 0 ∷ 1 ∷ set frame 1 0x01
 
 -- number 0, no reply
-abbrev pub silent : List ℕ
-silent = 0 ∷ 0 ∷ replicate 12 0
+abbrev pub nothingTold : List ℕ
+nothingTold = 0 ∷ 0 ∷ replicate 12 0
 
 unfoldable pub answersOf : Recipe → List (List ℕ)
-answersOf r = map mirrored (itemsFrames (r .moduleNumber) (r .groupNumber) (r .items)) ++ (silent ∷ [])
+answersOf r = map mirrored (itemsFrames (r .moduleNumber) (r .groupNumber) (r .items)) ++ (nothingTold ∷ [])
+
+-- number 0, one reply: 0x040 with flag 1, the recipe's numbers, and these eight cells
+abbrev pub shows : Recipe → List ℕ → List ℕ
+shows r cells = 0 ∷ 1 ∷ 0x04 ∷ 0x01 ∷ r .moduleNumber ∷ r .groupNumber ∷ cells

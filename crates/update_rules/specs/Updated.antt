@@ -2,19 +2,18 @@
 -- things stand while it is under way.
 use Prim.Native.Nat.{ℕ}
 use mathlib.Core.Path.{_≡_}
-use mathlib.Core.Bool.{true}
-use mathlib.Core.List.{List, map}
+use mathlib.Core.List.{List}
 use lib.ListN.{length, getD}
 use Rattle.memory_address.specs.Places.{flashCells, eepromCells}
 use Rattle.node_rules.specs.declared.Staged.{Staged}
 use Rattle.node_rules.specs.declared.Mode.the-variants.{Programming, Waiting}
 use Rattle.node_rules.specs.declared.Node.{Node}
-use Rattle.node_rules.specs.Record.{withMode, legalStaged, tidied}
+use Rattle.node_rules.specs.Record.{withMode, tidied}
 use Rattle.node_rules.specs.Runs.{State, state}
 use Rattle.recipe.specs.Items.{Recipe}
 use Rattle.recipe.specs.Plain.{Memories, plainly, OutsideFlash, OutsideEeprom, Each}
-use Rattle.update_rules.specs.Delivery.{Delivery, Delivers}
-use Rattle.update_rules.specs.Mirror.{mirrored, answersOf}
+use Rattle.update_rules.specs.Delivery.{Delivery, delivery}
+use Rattle.update_rules.specs.Mirror.{answersOf}
 
 -- "a node in programming mode (tidied record) that bears the recipe's numbers, whatever is staged"
 pub record Ready (n : Node) (r : Recipe) : Type 0 where
@@ -31,24 +30,18 @@ over n m = state n (m .flash) (m .eeprom)
 abbrev pub Full : Memories → Type 0
 Full m = (length (m .flash) ≡ flashCells) × (length (m .eeprom) ≡ eepromCells)
 
--- what a whole update leaves: each frame but the last answered by itself with the flag set, the last by nothing; the tidied node,
--- waiting for a restart; and both memories as the recipe says when it is read plainly
-abbrev pub updated : Recipe → Node → Memories → Delivery
-updated r n m =
-    record {
-      answers = answersOf r;
-      node = withMode (tidied n) Waiting;
-      flash = plainly r m .flash;
-      eeprom = plainly r m .eeprom;
-    }
+-- what a whole update leaves standing: the tidied node, waiting for a restart, over both memories as the recipe says when it is read plainly
+abbrev pub leftWhole : Recipe → Node → Memories → State
+leftWhole r n m = over (withMode (tidied n) Waiting) (plainly r m)
 
--- frames that a programming node with s staged answers each by itself with the flag set, and that leave it programming, with some legal
--- command staged, over the memories m′
-pub record Carries (n : Node) (frames : List (List ℕ)) (s : Staged) (m m′ : Memories) : Type 0 where
-  pub staged : Staged
-  pub isLegal : legalStaged staged ≡ true
-  pub delivers : Delivers frames (over (withMode (tidied n) (Programming s)) m) (map mirrored frames)
-      (over (withMode (tidied n) (Programming staged)) m′)
+-- and what is told besides: each frame but the last answered by itself with the flag set, the last by nothing
+abbrev pub updated : Recipe → Node → Memories → Delivery
+updated r n m = delivery (answersOf r) (leftWhole r n m)
+
+-- a recipe has arrived whole, where these answers were told and this stands
+pub record Arrived (r : Recipe) (n : Node) (m : Memories) (answers : List (List ℕ)) (after : State) : Type 0 where
+  pub answered : answers ≡ answersOf r
+  pub stands : after ≡ leftWhole r n m
 
 -- a recipe under way: the node is still programming with the recipe's numbers, the memories have their lengths, and every cell that no item
 -- names is as it was

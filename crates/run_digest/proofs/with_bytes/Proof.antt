@@ -6,7 +6,7 @@ use Prim.Native.Nat.{ℕ, _+_, _-_, _≤_}
 use lib.ListN.{length, drop, drop-of-length-le}
 use native.Mathlib.Omega.{arith}
 use borrow.Author.Needs.{needs}
-use Rattle.run_digest.specs.Digest.{digestOf}
+use Rattle.run_digest.specs.Internal.Digest.{digestOf}
 use Rattle.run_digest.proofs.Laws.{next-byte}
 use Rattle.run_digest.proofs.with_bytes.Statement.{statement}
 use Rattle.run_digest.proofs.with_bytes.Tie as tie

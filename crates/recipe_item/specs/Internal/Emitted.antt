@@ -20,9 +20,9 @@ framesAt m g input =
     (cond (eqb (kindOf input) 0x0F) (leaveFrame m g ∷ []) (itemsFrames m g (itemsAt input)))
 
 -- the output with bytes from `at` on, where it has room for all of them; else it stays
-unfoldable pub putAt : List ℕ → ℕ → List ℕ → List ℕ
-putAt output at bytes = cond (ltb (length output) (at + length bytes)) output (patch output at bytes)
+unfoldable pub framesPut : List ℕ → ℕ → List ℕ → List ℕ
+framesPut output at bytes = cond (ltb (length output) (at + length bytes)) output (patch output at bytes)
 
 -- the output with the frames of the item that `input` starts with, "12 bytes a frame"
 abbrev pub itemPut : ℕ → ℕ → List ℕ → List ℕ → ℕ → List ℕ
-itemPut m g input output at = putAt output at (joined (framesAt m g input))
+itemPut m g input output at = framesPut output at (joined (framesAt m g input))

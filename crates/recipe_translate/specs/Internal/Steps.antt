@@ -5,7 +5,7 @@ use mathlib.Core.Bool.{Bool, cond}
 use mathlib.Core.List.{List}
 use lib.Dec.{eqb}
 use lib.ListN.{length, drop}
-use Rattle.recipe_item.specs.Emitted.{framesOfKind}
+use Rattle.recipe_item.specs.Internal.Emitted.{framesOfKind}
 use Rattle.recipe.specs.Faults.{kindOf, faultAt}
 use Rattle.recipe.specs.Reading.{Reading, sizeOf, readFrom}
 use Rattle.recipe_translate.specs.declared.cursor.Cursor.{Cursor}
