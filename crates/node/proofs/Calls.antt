@@ -1,14 +1,10 @@
--- A call of each function, witnessed by its real contract: what it is handed, the answer, and what stands in the memories afterwards. The
--- contracts are the generated `Reads`: nothing is said of a body. Each contract is one equation with the rules' step.
+-- What the contract of each call says, by the parts of a call (specs/Calls.antt): each is one equation with the rules' step. So calls one
+-- after the other are the rules' run.
 -- Assumes nothing.
-use mathlib.Core.Path.{_≡_}
+use mathlib.Core.Path.{_≡_, _∙_, refl, ap}
 use mathlib.Core.Bool.{Bool}
-use mathlib.Core.List.{List}
+use mathlib.Core.List.{List, _∷_}
 use Prim.Native.Nat.{ℕ}
-use contract.Lifetimes.{Lfts}
-use borrow.Fn.World.{ArgsD, ResD}
-use denote.Triple.Clauses.{AtExit}
-use borrow.Fn.Kinds.{endedOf}
 use Rattle.node_rules.specs.declared.Pin.{Pin}
 use Rattle.node_rules.specs.declared.Choices.{Choices}
 use Rattle.node_rules.specs.declared.Node.{Node}
@@ -17,54 +13,10 @@ use Rattle.node_rules.specs.declared.UartAnswer.{UartAnswer}
 use Rattle.node_rules.specs.declared.Restarted.{Restarted}
 use Rattle.node_rules.specs.Record.{plain, freshNode}
 use Rattle.node_rules.specs.Restart.{restartStep}
-use Rattle.node_rules.specs.Step.{after, canStep}
-use Rattle.node_rules.specs.Uart.{uartAfter, uartStep}
-use Rattle.node_restart.proofs.fresh as fresh
-use Rattle.node_restart.proofs.fresh.Kinds as fresh-kinds
-use Rattle.node_restart.proofs.fresh.Reads as fresh-reads
-use Rattle.node_restart.proofs.restart as restart
-use Rattle.node_restart.proofs.restart.Kinds as restart-kinds
-use Rattle.node_restart.proofs.restart.Reads as restart-reads
-use Rattle.node_restart.proofs.restart_with as restart-with
-use Rattle.node_restart.proofs.restart_with.Kinds as restart-with-kinds
-use Rattle.node_restart.proofs.restart_with.Reads as restart-with-reads
-use Rattle.node_can.proofs.can_frame as can-frame
-use Rattle.node_can.proofs.can_frame.Kinds as can-frame-kinds
-use Rattle.node_can.proofs.can_frame.Reads as can-frame-reads
-use Rattle.node_uart.proofs.uart_byte as uart-byte
-use Rattle.node_uart.proofs.uart_byte.Kinds as uart-byte-kinds
-use Rattle.node_uart.proofs.uart_byte.Reads as uart-byte-reads
-
--- `fresh(six)` may give n
-pub data Fresh : List ℕ → Node → Type 1 where
-  call : (κs : Lfts 0) (a : ArgsD fresh.signature κs) (r : ResD fresh.signature κs) (s : AtExit (endedOf 0 fresh-kinds.ps fresh-kinds.r) κs)
-      → fresh-reads.Post κs a r s → Fresh (a .0) r
-
--- `restart(n, pin, passed, flash, eeprom)` may give r; both memories are lent to be read alone
-pub data Restart : Node → Pin → Bool → List ℕ → List ℕ → Restarted → Type 1 where
-  call : (κs : Lfts 2) (a : ArgsD restart.signature κs) (r : ResD restart.signature κs)
-      (s : AtExit (endedOf 2 restart-kinds.ps restart-kinds.r) κs) → restart-reads.Post κs a r s
-      → Restart (a .0) (a .1 .0) (a .1 .1 .0) ((a .1 .1 .1 .0) .now) ((a .1 .1 .1 .1 .0) .now) r
-
--- `restart_with(n, choices, passed, flash, eeprom)` may give r
-pub data RestartWith : Node → Choices → Bool → List ℕ → List ℕ → Restarted → Type 1 where
-  call : (κs : Lfts 2) (a : ArgsD restart-with.signature κs) (r : ResD restart-with.signature κs)
-      (s : AtExit (endedOf 2 restart-with-kinds.ps restart-with-kinds.r) κs) → restart-with-reads.Post κs a r s
-      → RestartWith (a .0) (a .1 .0) (a .1 .1 .0) ((a .1 .1 .1 .0) .now) ((a .1 .1 .1 .1 .0) .now) r
-
--- `can_frame(n, f, flash, eeprom)` may give r and leave flash′ and eeprom′
-pub data CanFrame : Node → List ℕ → List ℕ → List ℕ → Answer → List ℕ → List ℕ → Type 1 where
-  call : (κs : Lfts 3) (a : ArgsD can-frame.signature κs) (r : ResD can-frame.signature κs)
-      (s : AtExit (endedOf 3 can-frame-kinds.ps can-frame-kinds.r) κs) → can-frame-reads.Post κs a r s
-      → CanFrame (a .0) ((a .1 .0) .now) ((a .1 .1 .0) .now) ((a .1 .1 .1 .0) .now) r ((s .1 .1 .0) .now) ((s .1 .1 .1 .0) .now)
-
--- `uart_byte(n, b, flash, eeprom)` may give r and leave flash′ and eeprom′
-pub data UartByte : Node → ℕ → List ℕ → List ℕ → UartAnswer → List ℕ → List ℕ → Type 1 where
-  call : (κs : Lfts 2) (a : ArgsD uart-byte.signature κs) (r : ResD uart-byte.signature κs)
-      (s : AtExit (endedOf 2 uart-byte-kinds.ps uart-byte-kinds.r) κs) → uart-byte-reads.Post κs a r s
-      → UartByte (a .0) (a .1 .0) ((a .1 .1 .0) .now) ((a .1 .1 .1 .0) .now) r ((s .1 .1 .0) .now) ((s .1 .1 .1 .0) .now)
-
--- ---- what each contract says of such a call: all that it leaves is the rules' step
+use Rattle.node_rules.specs.Step.{Step, after, canStep}
+use Rattle.node_rules.specs.Uart.{UartStep, uartAfter, uartStep}
+use Rattle.node_rules.specs.Runs.{State, endOf, behindFrame, framesIn, behindByte, bytesIn}
+use Rattle.node.specs.Calls.{Fresh, Restart, RestartWith, CanFrame, UartByte, call, CanFrames, UartBytes, none, more}
 
 pub fresh-said : {six : List ℕ} {n : Node} → Fresh six n → n ≡ freshNode six
 fresh-said (call κs a r s p) = p
@@ -84,3 +36,24 @@ can-frame-said (call κs a r s p) = p
 pub uart-byte-said : {n : Node} {b : ℕ} {flash eeprom flash′ eeprom′ : List ℕ} {r : UartAnswer} → UartByte n b flash eeprom r flash′ eeprom′
     → uartAfter r flash′ eeprom′ ≡ uartStep n b flash eeprom
 uart-byte-said (call κs a r s p) = p
+
+-- ---- runs
+
+pub frames-said : {fs : List (List ℕ)} {s end : State} {steps : List Step} → CanFrames fs s steps end
+    → (steps ≡ framesIn fs s) × (end ≡ endOf behindFrame s steps)
+frames-said none = (refl, refl)
+frames-said (more {flash′ = flash′} {eeprom′ = eeprom′} {r = r} {fs = fs} c rest) =
+    let h = frames-said rest in (
+      ap (λ (t : List Step). after r flash′ eeprom′ ∷ t) (h .0) ∙ ap (λ (x : Step). x ∷ framesIn fs (behindFrame x)) (can-frame-said c),
+      h .1,
+    )
+
+pub bytes-said : {bs : List ℕ} {s end : State} {steps : List UartStep} → UartBytes bs s steps end
+    → (steps ≡ bytesIn bs s) × (end ≡ endOf behindByte s steps)
+bytes-said none = (refl, refl)
+bytes-said (more {bs = bs} {flash′ = flash′} {eeprom′ = eeprom′} {r = r} c rest) =
+    let h = bytes-said rest in (
+      ap (λ (t : List UartStep). uartAfter r flash′ eeprom′ ∷ t) (h .0)
+          ∙ ap (λ (x : UartStep). x ∷ bytesIn bs (behindByte x)) (uart-byte-said c),
+      h .1,
+    )

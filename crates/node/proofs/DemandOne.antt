@@ -4,14 +4,12 @@
 use mathlib.Core.Path.{_≡_, _∙_, refl, sym, ap, subst}
 use mathlib.Core.Bool.{Bool, true}
 use mathlib.Core.List.{List}
-use Prim.Native.Nat.{ℕ, _<_}
+use Prim.Native.Nat.{ℕ}
 use lib.ListN.{length, getD}
 use Rattle.memory_address.specs.Places.{full}
 use Rattle.memory_address.specs.Rule.{protected}
-use Rattle.memory_address.proofs.Laws.{rim-protected}
 use Rattle.frame_rules.specs.Wrapping.{innerOf}
 use Rattle.node_rules.specs.declared.Mode.the-variants.{Normal}
-use Rattle.node_rules.specs.declared.Pin.{Pin}
 use Rattle.node_rules.specs.declared.Choices.{Choices}
 use Rattle.node_rules.specs.declared.Node.{Node}
 use Rattle.node_rules.specs.declared.Answer.{Answer}
@@ -26,7 +24,8 @@ use Rattle.node_rules.proofs.Numbers.{can-number, uart-number, can-refused, uar
 use Rattle.node_rules.proofs.Spoiling.{can-protected, uart-protected, can-lengths, uart-lengths, can-normal-spares, uart-normal-spares}
 use Rattle.node_rules.proofs.StaysTidy.{can-tidy, uart-tidy, restart-tidy, fresh-tidy}
 use Rattle.node_rules.proofs.ForOthers.{can-others, uart-others}
-use Rattle.node.proofs.Calls.{Fresh, Restart, RestartWith, CanFrame, UartByte, fresh-said, restart-with-said, can-frame-said, uart-byte-said}
+use Rattle.node.proofs.Calls.{fresh-said, restart-with-said, can-frame-said, uart-byte-said}
+use Rattle.node.specs.Calls.{Fresh, RestartWith, CanFrame, UartByte, OneCall, restarted, restarted-with, framed, heard}
 
 -- ---- a call of can_frame: whatever its contract allows
 
@@ -123,38 +122,18 @@ pub restart-with-is-tidy : {n : Node} {choices : Choices} {passed : Bool} {flash
 restart-with-is-tidy {n} {choices} {passed} {flash} {eeprom} c =
     subst (λ (x : Restarted). tidied (x .node) ≡ x .node) (sym (restart-with-said c)) (restart-tidy n choices passed flash eeprom)
 
--- ---- a sequence of calls, each of any kind and with any arguments, each witnessed by that call's contract. The memories are carried over;
--- between calls the caller may hand in any record and choose anew. (A restart is lent both memories to be read alone.)
+-- ---- one call of any kind: the protected cells of FLASH, and the lengths
 
-pub data AnyCalls : List ℕ → List ℕ → List ℕ → List ℕ → Type 1 where
-  none : {flash eeprom : List ℕ} → AnyCalls flash eeprom flash eeprom
-  restarted : {n : Node} {pin : Pin} {passed : Bool} {flash eeprom flash′ eeprom′ : List ℕ} {r : Restarted}
-      → Restart n pin passed flash eeprom r → AnyCalls flash eeprom flash′ eeprom′ → AnyCalls flash eeprom flash′ eeprom′
-  restarted-with : {n : Node} {choices : Choices} {passed : Bool} {flash eeprom flash′ eeprom′ : List ℕ} {r : Restarted}
-      → RestartWith n choices passed flash eeprom r → AnyCalls flash eeprom flash′ eeprom′ → AnyCalls flash eeprom flash′ eeprom′
-  framed : {n : Node} {f flash eeprom flash₁ eeprom₁ flash′ eeprom′ : List ℕ} {r : Answer}
-      → CanFrame n f flash eeprom r flash₁ eeprom₁ → AnyCalls flash₁ eeprom₁ flash′ eeprom′ → AnyCalls flash eeprom flash′ eeprom′
-  heard : {n : Node} {b : ℕ} {flash eeprom flash₁ eeprom₁ flash′ eeprom′ : List ℕ} {r : UartAnswer}
-      → UartByte n b flash eeprom r flash₁ eeprom₁ → AnyCalls flash₁ eeprom₁ flash′ eeprom′ → AnyCalls flash eeprom flash′ eeprom′
-
-pub no-calls-spoil : {flash eeprom flash′ eeprom′ : List ℕ} → AnyCalls flash eeprom flash′ eeprom′ → (i : ℕ) → protected i ≡ true
+pub one-call-protected : {flash eeprom flash′ eeprom′ : List ℕ} → OneCall flash eeprom flash′ eeprom′ → (i : ℕ) → protected i ≡ true
     → getD flash′ i 0 ≡ getD flash i 0
-no-calls-spoil none i p = refl
-no-calls-spoil (restarted c rest) i p = no-calls-spoil rest i p
-no-calls-spoil (restarted-with c rest) i p = no-calls-spoil rest i p
-no-calls-spoil (framed c rest) i p = no-calls-spoil rest i p ∙ can-frame-protected c i p
-no-calls-spoil (heard c rest) i p = no-calls-spoil rest i p ∙ uart-byte-protected c i p
+one-call-protected (restarted c) i p = refl
+one-call-protected (restarted-with c) i p = refl
+one-call-protected (framed c) i p = can-frame-protected c i p
+one-call-protected (heard c) i p = uart-byte-protected c i p
 
--- "No sequence of calls changes FLASH below 0x001000."
-pub no-calls-below-rim : {flash eeprom flash′ eeprom′ : List ℕ} → AnyCalls flash eeprom flash′ eeprom′ → (i : ℕ) → i < 0x001000
-    → getD flash′ i 0 ≡ getD flash i 0
-no-calls-below-rim calls i l = no-calls-spoil calls i (rim-protected i l)
-
--- nor the length of a memory
-pub no-calls-lengths : {flash eeprom flash′ eeprom′ : List ℕ} → AnyCalls flash eeprom flash′ eeprom′
+pub one-call-lengths : {flash eeprom flash′ eeprom′ : List ℕ} → OneCall flash eeprom flash′ eeprom′
     → (length flash′ ≡ length flash) × (length eeprom′ ≡ length eeprom)
-no-calls-lengths none = (refl, refl)
-no-calls-lengths (restarted c rest) = no-calls-lengths rest
-no-calls-lengths (restarted-with c rest) = no-calls-lengths rest
-no-calls-lengths (framed c rest) = let l = no-calls-lengths rest in let k = can-frame-lengths c in (l .0 ∙ k .0, l .1 ∙ k .1)
-no-calls-lengths (heard c rest) = let l = no-calls-lengths rest in let k = uart-byte-lengths c in (l .0 ∙ k .0, l .1 ∙ k .1)
+one-call-lengths (restarted c) = (refl, refl)
+one-call-lengths (restarted-with c) = (refl, refl)
+one-call-lengths (framed c) = can-frame-lengths c
+one-call-lengths (heard c) = uart-byte-lengths c

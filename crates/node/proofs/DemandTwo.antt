@@ -2,7 +2,7 @@
 -- RequestTable, ProgrammingList, PairList, Restarting, Modes, Agreement) is what the call leaves, and all of it. Each contract is one
 -- equation with the rules' step, so a law of the step is a law of the call.
 -- Assumes nothing.
-use mathlib.Core.Path.{_≡_, _∙_, refl, sym, ap}
+use mathlib.Core.Path.{_≡_, _∙_, sym, ap}
 use mathlib.Core.Bool.{Bool, true, false}
 use mathlib.Core.List.{List, [], _∷_, _++_}
 use Prim.Native.Nat.{ℕ, _%_}
@@ -22,13 +22,14 @@ use Rattle.node_rules.specs.Requests.{isProgramming}
 use Rattle.node_rules.specs.Outcomes.{isDeaf}
 use Rattle.node_rules.specs.Restart.{restartStep}
 use Rattle.node_rules.specs.Step.{Step, after, canStep}
-use Rattle.node_rules.specs.Uart.{UartStep, uartAfter, heldWith, viaUart, uartStep}
-use Rattle.node_rules.specs.Runs.{state, behindByte, bytesIn, collected}
+use Rattle.node_rules.specs.Uart.{UartStep, heldWith, viaUart, uartStep}
+use Rattle.node_rules.specs.Runs.{State, state, collected}
 use Rattle.node_rules.specs.Reading.{SumsAgree}
 use Rattle.node_rules.proofs.Restarting.{marked-if, marked-only-if}
 use Rattle.node_rules.proofs.Modes.{can-deaf, can-normal, can-programming, uart-deaf, uart-normal, uart-programming}
 use Rattle.node_rules.proofs.Agreement.{agreement}
-use Rattle.node.proofs.Calls.{RestartWith, CanFrame, UartByte, restart-with-said, can-frame-said, uart-byte-said}
+use Rattle.node.proofs.Calls.{restart-with-said, can-frame-said, uart-byte-said, bytes-said}
+use Rattle.node.specs.Calls.{RestartWith, CanFrame, UartByte, UartBytes}
 
 -- ---- a CAN frame
 
@@ -89,30 +90,14 @@ module _ {n : Node} {choices : Choices} {passed : Bool} {flash eeprom : List ℕ
 
 -- ---- UART and CAN agree
 
--- bytes one after the other, each by a call that its contract allows, to the node and the memories that the one before left: all that
--- each leaves
-pub data BytesGiven : List ℕ → Node → List ℕ → List ℕ → List UartStep → Type 1 where
-  none : {n : Node} {flash eeprom : List ℕ} → BytesGiven [] n flash eeprom []
-  given : {n : Node} {b : ℕ} {bs flash eeprom flash′ eeprom′ : List ℕ} {r : UartAnswer} {steps : List UartStep}
-      → UartByte n b flash eeprom r flash′ eeprom′ → BytesGiven bs (r .node) flash′ eeprom′ steps
-      → BytesGiven (b ∷ bs) n flash eeprom (uartAfter r flash′ eeprom′ ∷ steps)
-
--- such calls leave what the rules say
-pub bytes-follow : {bs : List ℕ} {n : Node} {flash eeprom : List ℕ} {steps : List UartStep} → BytesGiven bs n flash eeprom steps
-    → steps ≡ bytesIn bs (state n flash eeprom)
-bytes-follow none = refl
-bytes-follow (given {bs = bs} {flash′ = flash′} {eeprom′ = eeprom′} {r = r} c rest) =
-    ap (λ (t : List UartStep). uartAfter r flash′ eeprom′ ∷ t) (bytes-follow rest)
-    ∙ ap (λ (x : UartStep). x ∷ bytesIn bs (behindByte x)) (uart-byte-said c)
-
 -- the wrapped frame byte by byte: fourteen times 10 with no reply and memories untouched (collected-ten), and then what the same
 -- frame's call on CAN leaves, the replies wrapped
-pub ports-agree : {n : Node} {f flash eeprom flash′ eeprom′ : List ℕ} {r : Answer} {steps : List UartStep}
-    → CanFrame n f flash eeprom r flash′ eeprom′ → BytesGiven (wrappedOf f) n flash eeprom steps
+pub ports-agree : {n : Node} {f flash eeprom flash′ eeprom′ : List ℕ} {r : Answer} {steps : List UartStep} {end : State}
+    → CanFrame n f flash eeprom r flash′ eeprom′ → UartBytes (wrappedOf f) (state n flash eeprom) steps end
     → length flash ≡ 65536 → length eeprom ≡ 1024 → n .choices .pin ≡ CanAndUart → isDeaf (n .mode) ≡ false → heldOf n ≡ [] → length f ≡ 12
     → steps ≡ collected (tidied n) [] (0xAA ∷ f ++ (sumOf f % 256 ∷ [])) flash eeprom ++ (viaUart (after r flash′ eeprom′) ∷ [])
 ports-agree {n} {f} {flash} {eeprom} c bytes fl el pin hears empty l =
-    bytes-follow bytes
+    bytes-said bytes .0
     ∙ agreement n flash eeprom fl el pin hears empty f l
     ∙ ap (λ (x : Step). collected (tidied n) [] (0xAA ∷ f ++ (sumOf f % 256 ∷ [])) flash eeprom ++ (viaUart x ∷ [])) (sym
     (can-frame-said c))

@@ -1,64 +1,51 @@
 -- Demand 3 over the real contracts: a call of the translator, and then calls of `node::can_frame` one after the other, whatever outcome
 -- their contracts allow. Such calls are a delivery, since the contract of each is one step of it.
 -- Assumes nothing.
-use mathlib.Core.Path.{_≡_, _∙_, sym, refl, ap, subst}
+use mathlib.Core.Path.{_≡_, _∙_, sym, refl, ap, ap₂, subst}
 use mathlib.Core.Bool.{Bool, true, false}
-use mathlib.Core.List.{List, [], _∷_, _++_}
+use mathlib.Core.List.{List, _++_}
 use Prim.Native.Nat.{ℕ, _*_, _≤_, _<_}
 use native.Mathlib.Omega.{arith}
 use lib.Dec.{ltb}
 use lib.ListN.{length, drop}
 use borrow.Author.Tests.{ltb-true, ltb-false}
 use Rattle.base.specs.Parts.{Bytes}
-use Rattle.node_rules.specs.declared.Mode.the-variants.{Waiting}
 use Rattle.node_rules.specs.declared.Node.{Node}
-use Rattle.node_rules.specs.Record.{withMode, tidied}
 use Rattle.node_rules.specs.Step.{Step}
-use Rattle.node_rules.specs.Runs.{State, state, behindFrame}
-use Rattle.node.proofs.Calls.{can-frame-said}
+use Rattle.node_rules.specs.Runs.{State, endOf, behindFrame}
+use Rattle.node.specs.Calls.{CanFrames}
+use Rattle.node.proofs.Calls.{frames-said}
 use Rattle.recipe.specs.declared.Translated.{Translated}
 use Rattle.recipe.specs.declared.Translated.the-variants.{Frames, Refused}
 use Rattle.recipe.specs.Items.{Recipe, Legal, printed}
 use Rattle.recipe.specs.Frames.{framesOf, joined, frameCount}
 use Rattle.recipe.specs.Reading.{recipeOf}
-use Rattle.recipe.specs.Plain.{Memories, plainly}
+use Rattle.recipe.specs.Plain.{Memories}
 use Rattle.recipe_translate.proofs.Translating.{accepts-every-legal, refuses-short-output, accepts-only-legal}
-use Rattle.update_rules.specs.Delivery.{told, Delivery, Delivers, behind}
-use Rattle.update_rules.specs.Mirror.{answersOf}
-use Rattle.update_rules.specs.Updated.{Ready, over, Full}
-use Rattle.update_rules.proofs.Deliveries.{deliveredAt, nothing, frame-first}
-use Rattle.update_rules.proofs.DemandThree.{whole-delivery}
+use Rattle.update_rules.specs.Delivery.{toldAll, delivery, delivered, Delivers}
+use Rattle.update_rules.specs.Updated.{Ready, over, Full, Arrived}
+use Rattle.update_rules.proofs.DemandThree.{delivery-arrives}
 use Rattle.update_deliver.specs.Taken.{firstFrames}
-use Rattle.update.specs.Calls.{Translate, call, CanFrames, none, more}
-use Rattle.update.specs.Whole.{ArrivedWhole}
+use Rattle.update.specs.Calls.{Translate, call}
 use Rattle.update.proofs.Taking.{recipe-taken}
 
 -- calls of `can_frame` one after the other are a delivery
-pub calls-deliver : {frames answers : List (List ℕ)} {before after : State} → CanFrames frames before answers after
-    → Delivers frames before answers after
-calls-deliver (none {s}) = nothing s
-calls-deliver (more {frame} {flash} {eeprom} {n = n} {r = r} {frames = frames} c rest) =
-    frame-first (state n flash eeprom) frame frames
-    ∙ ap (λ (t : Step). behind (told (t .answer) ∷ []) (deliveredAt frames (behindFrame t))) (sym (can-frame-said c))
-    ∙ ap (behind (told r ∷ [])) (calls-deliver rest)
-
--- two deliveries of the same frames from the same state are one
-same-delivery : (frames : List (List ℕ)) (before : State) (xs ys : List (List ℕ)) (a b : State) → Delivers frames before xs a
-    → Delivers frames before ys b → (xs ≡ ys) × (a ≡ b)
-same-delivery frames before xs ys a b p q =
-    let e = sym p ∙ q in
-    (ap (λ (d : Delivery). d .answers) e, ap (λ (d : Delivery). state (d .node) (d .flash) (d .eeprom)) e)
+pub calls-deliver : {frames : List (List ℕ)} {steps : List Step} {before after : State} → CanFrames frames before steps after
+    → Delivers frames before (toldAll steps) after
+unfolding delivered
+calls-deliver {before = before} calls =
+    let h = frames-said calls in
+    ap₂ delivery (ap toldAll (sym (h .0))) (ap (endOf behindFrame before) (sym (h .0)) ∙ sym (h .1))
 
 -- calls over the frames of a legal recipe
-pub demand-three-frames : (q : Recipe) (n : Node) (m : Memories) (answers : List (List ℕ)) (after : State) → Legal q → Ready n q → Full m
-    → CanFrames (framesOf q) (over n m) answers after → ArrivedWhole q n m answers after
-demand-three-frames q n m answers after legal ready full calls =
-    same-delivery (framesOf q) (over n m) answers (answersOf q) after (over (withMode (tidied n) Waiting) (plainly q m))
-    (calls-deliver calls) (whole-delivery q n m legal ready full)
+pub demand-three-frames : (q : Recipe) (n : Node) (m : Memories) (steps : List Step) (after : State) → Legal q → Ready n q → Full m
+    → CanFrames (framesOf q) (over n m) steps after → Arrived q n m (toldAll steps) after
+demand-three-frames q n m steps after legal ready full calls =
+    delivery-arrives q n m (toldAll steps) after legal ready full (calls-deliver calls)
 
 -- ---- what the translator's contract says, by the parts of a call
 
-translate-legal : {input output output′ : List ℕ} {t : Translated} → Translate input output t output′ → (q : Recipe) → Legal q
+pub translate-legal : {input output output′ : List ℕ} {t : Translated} → Translate input output t output′ → (q : Recipe) → Legal q
     → input ≡ printed q → 12 * frameCount q ≤ length output
     → (t ≡ Frames (frameCount q)) × (output′ ≡ joined (framesOf q) ++ drop (12 * frameCount q) output)
 translate-legal (call κs a r s p) q legal e room = accepts-every-legal κs a r s p q legal e room
@@ -74,19 +61,23 @@ translate-only (call κs a r s p) bytes count e =
     (o .0, o .1, o .3)
 
 module _ {input output output′ : List ℕ} {t : Translated} (translates : Translate input output t output′) where
+  -- the frames that stand in its output are the recipe's
+  pub translated-frames : (q : Recipe) → Legal q → input ≡ printed q → 12 * frameCount q ≤ length output
+      → firstFrames (frameCount q) output′ ≡ framesOf q
+  translated-frames q legal e room =
+      ap (firstFrames (frameCount q)) (translate-legal translates q legal e room .1)
+      ∙ recipe-taken q (drop (12 * frameCount q) output) legal
+
   -- a call of the translator on a legal recipe's bytes, with room, and then calls over the frames in its output
   pub demand-three-calls : (q : Recipe) → Legal q → input ≡ printed q → 12 * frameCount q ≤ length output
-      → (n : Node) (m : Memories) (answers : List (List ℕ)) (after : State) → Ready n q → Full m
-      → CanFrames (firstFrames (frameCount q) output′) (over n m) answers after
-      → (t ≡ Frames (frameCount q)) × ArrivedWhole q n m answers after
-  demand-three-calls q legal e room n m answers after ready full calls =
-      let said = translate-legal translates q legal e room in
-      let same : firstFrames (frameCount q) output′ ≡ framesOf q =
-      ap (firstFrames (frameCount q)) (said .1) ∙ recipe-taken q (drop (12 * frameCount q) output) legal in (
-        said .0,
-        demand-three-frames q n m answers after legal ready full
-            (subst (λ (fs : List (List ℕ)). CanFrames fs (over n m) answers after) same calls),
-      )
+      → (n : Node) (m : Memories) (steps : List Step) (after : State) → Ready n q → Full m
+      → CanFrames (firstFrames (frameCount q) output′) (over n m) steps after
+      → (t ≡ Frames (frameCount q)) × Arrived q n m (toldAll steps) after
+  demand-three-calls q legal e room n m steps after ready full calls = (
+    translate-legal translates q legal e room .0,
+    demand-three-frames q n m steps after legal ready full
+        (subst (λ (fs : List (List ℕ)). CanFrames fs (over n m) steps after) (translated-frames q legal e room) calls),
+  )
 
   -- a translator's answer with frames had room for them
   had-room : (q : Recipe) → Legal q → input ≡ printed q → (count : ℕ) → t ≡ Frames count → 12 * frameCount q ≤ length output
@@ -101,15 +92,15 @@ module _ {input output output′ : List ℕ} {t : Translated} (translates : Tran
 
   -- whatever bytes the translator accepted, and then calls over the frames in its output
   pub demand-three-accepted : Bytes input → (count : ℕ) → t ≡ Frames count
-      → (n : Node) (m : Memories) (answers : List (List ℕ)) (after : State) → Ready n (recipeOf input) → Full m
-      → CanFrames (firstFrames count output′) (over n m) answers after
-      → Legal (recipeOf input) × (input ≡ printed (recipeOf input)) × ArrivedWhole (recipeOf input) n m answers after
-  demand-three-accepted bytes count f n m answers after ready full calls =
+      → (n : Node) (m : Memories) (steps : List Step) (after : State) → Ready n (recipeOf input) → Full m
+      → CanFrames (firstFrames count output′) (over n m) steps after
+      → Legal (recipeOf input) × (input ≡ printed (recipeOf input)) × Arrived (recipeOf input) n m (toldAll steps) after
+  demand-three-accepted bytes count f n m steps after ready full calls =
       let o = translate-only translates bytes count f in
       let q = recipeOf input in
       let room = had-room q (o .0) (o .1) count f in (
         o .0,
         o .1,
-        demand-three-calls q (o .0) (o .1) room n m answers after ready full
-            (subst (λ (c : ℕ). CanFrames (firstFrames c output′) (over n m) answers after) (o .2) calls) .1,
+        demand-three-calls q (o .0) (o .1) room n m steps after ready full
+            (subst (λ (c : ℕ). CanFrames (firstFrames c output′) (over n m) steps after) (o .2) calls) .1,
       )

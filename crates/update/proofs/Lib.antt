@@ -1,4 +1,6 @@
 pub mod Taking
 pub mod Calls
+pub mod Delivering
+pub mod AnyCalls
 pub mod Whole
 pub mod SerialCalls

@@ -1,4 +1,3 @@
 pub mod Turns
 pub mod Outcome
-pub mod Calls
 pub mod Tight

@@ -2,12 +2,17 @@
 -- Both are the definition's step.
 -- Assumes nothing.
 use mathlib.Core.Path.{_≡_, _∙_, sym}
-use mathlib.Core.List.{List}
-use Prim.Native.Nat.{ℕ}
-use Rattle.node_rules.specs.declared.Node.{Node}
-use Rattle.update_deliver.specs.Delivering.{Left}
-use Rattle.update_deliver.proofs.Calls.{Deliver, deliver-said}
+use contract.Lifetimes.{Lfts}
+use borrow.Fn.World.{ArgsD, ResD}
+use denote.Triple.Clauses.{AtExit}
+use borrow.Fn.Kinds.{endedOf}
+use Rattle.update_deliver.specs.Delivering.{left}
+use Rattle.update_deliver.proofs.deliver.{signature}
+use Rattle.update_deliver.proofs.deliver.Kinds as kinds
+use Rattle.update_deliver.proofs.deliver.Reads as reads
 
-pub deliver-tight : {recipe flash eeprom frames answers : List ℕ} {n : Node} {l l′ : Left} → Deliver recipe n flash eeprom frames answers l
-    → Deliver recipe n flash eeprom frames answers l′ → l ≡ l′
-deliver-tight p q = deliver-said p ∙ sym (deliver-said q)
+pub deliver-tight : (κs : Lfts 5) (a : ArgsD signature κs) (r r′ : ResD signature κs) (s s′ : AtExit (endedOf 5 kinds.ps kinds.r) κs)
+    → reads.Post κs a r s → reads.Post κs a r′ s′
+    → left r ((s .1 .1 .0) .now) ((s .1 .1 .1 .0) .now) ((s .1 .1 .1 .1 .0) .now) ((s .1 .1 .1 .1 .1 .0) .now)
+    ≡ left r′ ((s′ .1 .1 .0) .now) ((s′ .1 .1 .1 .0) .now) ((s′ .1 .1 .1 .1 .0) .now) ((s′ .1 .1 .1 .1 .1 .0) .now)
+deliver-tight κs a r r′ s s′ p q = p ∙ sym q

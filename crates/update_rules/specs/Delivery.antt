@@ -12,6 +12,9 @@ use Rattle.node_rules.specs.Runs.{State, state, endOf, behindFrame, framesIn}
 abbrev pub told : Answer → List ℕ
 told a = a .number ∷ a .count ∷ take 12 (a .replies)
 
+abbrev pub toldAll : List Step → List (List ℕ)
+toldAll steps = map (λ (s : Step). told (s .answer)) steps
+
 -- all that a delivery leaves: what was told of each answer, in the frames' order, the node, and the two memories
 pub record Delivery : Type 0 where
   pub answers : List (List ℕ)
@@ -29,7 +32,7 @@ behindFrames frames s = endOf behindFrame s (framesIn frames s)
 -- "Deliver the translated frames in order"
 unfoldable pub delivered : List (List ℕ) → Node → List ℕ → List ℕ → Delivery
 delivered frames n flash eeprom =
-    delivery (map (λ (s : Step). told (s .answer)) (framesIn frames (state n flash eeprom))) (behindFrames frames (state n flash eeprom))
+    delivery (toldAll (framesIn frames (state n flash eeprom))) (behindFrames frames (state n flash eeprom))
 
 -- THE RELATION: frames handed to what stands before give these told answers, and leave what stands after
 abbrev pub Delivers : List (List ℕ) → State → List (List ℕ) → State → Type 0

@@ -20,9 +20,12 @@ use Rattle.update_rules.specs.Delivery.{Delivery, delivery}
 abbrev pub toldOnUart : UartAnswer → List ℕ
 toldOnUart a = a .number ∷ a .count ∷ take 15 (a .replies)
 
+abbrev pub toldAllOnUart : List UartStep → List (List ℕ)
+toldAllOnUart steps = map (λ (s : UartStep). toldOnUart (s .answer)) steps
+
 -- all that UART steps leave, behind what stood before them
 abbrev pub deliveryOnUart : State → List UartStep → Delivery
-deliveryOnUart before steps = delivery (map (λ (s : UartStep). toldOnUart (s .answer)) steps) (endOf behindByte before steps)
+deliveryOnUart before steps = delivery (toldAllOnUart steps) (endOf behindByte before steps)
 
 -- bytes handed to a node one by one
 unfoldable pub fed : List ℕ → Node → List ℕ → List ℕ → Delivery
