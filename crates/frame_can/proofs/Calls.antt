@@ -5,6 +5,7 @@ use mathlib.Core.Bool.{true, false}
 use mathlib.Core.List.{List}
 use Prim.Native.Nat.{ℕ}
 use lib.ListN.{length}
+use Rattle.base.specs.Parts.{Bytes}
 use Rattle.frame_rules.specs.declared.Identified.{Identified}
 use Rattle.frame_rules.specs.Frame.{dataOf, hapcanOf, identifierOf, legalIdentifier, upperFlags}
 use Rattle.frame_rules.specs.Numbers.{toHapcanNumber, toCanNumber, identifiedOf}
@@ -43,3 +44,7 @@ pub to-can-gives : {f held d : List ℕ} {r : Identified} → ToCan f held r d �
 to-can-gives {f} {held} c h l u =
     let z = rw (done-to-can f (length held) h l u) at (to-can-said c .0) in
     (z, to-can-said c .1 (ap (λ (q : Identified). q .number) z))
+
+-- a frame that was taken holds bytes, by the contract: a lent slice does, and to take it is to read it
+pub to-can-bytes : {f held d : List ℕ} {r : Identified} → ToCan f held r d → r .number ≡ 0 → Bytes f
+to-can-bytes (call κs a r s p) = p .2

@@ -3,13 +3,14 @@
 // compiler knows.
 ghost use mathlib.Core.Path.{_≡_};
 ghost use lib.ListN.{length};
+ghost use Rattle.base.specs.Parts.{Bytes};
 ghost use Rattle.frame_rules.specs.Frame.{dataOf, identifierOf};
 ghost use Rattle.frame_rules.specs.Numbers.{toCanNumber, outputAfter, identifiedOf};
 use frame_rules::Identified;
 
-// The number of a frame to identifier and data.
+// The number of a frame to identifier and data. A frame that is taken was read, and so is known to hold bytes.
 fn to_can_number(frame: &[u8], room: usize) -> u8
-    ensures { λ r. ⌜ r ≡ toCanNumber (now (frame .entry)) room ⌝ }
+    ensures { λ r. ⌜ (r ≡ toCanNumber (now (frame .entry)) room) × (r ≡ 0 → Bytes (now (frame .entry))) ⌝ }
 {
     if room != 8 {
         return 4;
@@ -38,7 +39,8 @@ fn identifier_of(frame: &[u8]) -> u32
 pub fn to_can(frame: &[u8], data: &mut [u8]) -> Identified
     ensures { λ r. ⌜
         (r ≡ identifiedOf (toCanNumber (now (frame .entry)) (length (now («data» .entry)))) (now (frame .entry)))
-        × (now («data» .exit) ≡ outputAfter (r .number) (dataOf (now (frame .entry))) (now («data» .entry))) ⌝ }
+        × (now («data» .exit) ≡ outputAfter (r .number) (dataOf (now (frame .entry))) (now («data» .entry)))
+        × (r .number ≡ 0 → Bytes (now (frame .entry))) ⌝ }
 {
     let to_can_number = to_can_number(frame, data.len());
     if to_can_number == 0 {

@@ -1,30 +1,33 @@
--- One call after another, each whatever its function's real contract allows (`Calls`): wrapping and unwrapping lose nothing, each way
--- round, and no two inputs share an outcome. The same of the definitions is in `Wrapped` of `frame_rules`.
+-- One call after another, each whatever its function's real contract allows (`Calls`): wrapping and unwrapping take all that is right and
+-- lose nothing, each way round, and no two inputs share an outcome. The same of the definitions is in `Wrapped` of `frame_rules`.
 -- Assumes nothing.
 use mathlib.Core.Path.{_≡_, _∙_, sym, ap}
+use mathlib.Core.Bool.{true}
 use mathlib.Core.List.{List}
 use Prim.Native.Nat.{ℕ}
 use lib.ListN.{length}
 use Rattle.frame_rules.specs.Wrapping.{innerOf, wrappedOf, rightlyWrapped}
 use Rattle.frame_rules.proofs.Wrapped.{wrapped-length, wrapped-inner, wrapped-right, wrapped-injective}
-use Rattle.frame_rules.proofs.Wrapped.{right-inner-length, right-wrapped, inner-injective}
-use Rattle.frame_uart.proofs.Calls.{wrap-gave, unwrap-gave, wrap-gives, unwrap-gives}
+use Rattle.frame_rules.proofs.Wrapped.{right-says, right-inner-length, right-wrapped, inner-injective}
 use Rattle.frame_uart.specs.Calls.{Wrap, Unwrap}
+use Rattle.frame_uart.proofs.Calls.{wrap-gave, unwrap-gave, wrap-gives, unwrap-gives}
 
--- a frame that is wrapped and unwrapped: number 0 and the same frame
-pub wrap-unwrap : {n : ℕ} {f held w room f′ : List ℕ} → Wrap f held 0 w → Unwrap w room n f′ → length room ≡ 12 → (n ≡ 0) × (f′ ≡ f)
-wrap-unwrap {n} {f} c t h =
-    let g = wrap-gave c in
-    let q = g .2 in
-    let k = unwrap-gives t h (ap length q ∙ wrapped-length f (g .1)) (ap rightlyWrapped q ∙ wrapped-right f (g .1)) in
-    (k .0, k .1 ∙ ap innerOf q ∙ wrapped-inner f (g .1))
+-- every twelve bytes, wrapped and unwrapped: both calls give 0, and the second the same frame
+pub wrap-unwrap : {n k : ℕ} {f held w room f′ : List ℕ} → length f ≡ 12 → length held ≡ 15 → length room ≡ 12
+    → Wrap f held n w → Unwrap w room k f′ → (n ≡ 0) × (k ≡ 0) × (f′ ≡ f)
+wrap-unwrap {n} {k} {f} l h h′ c t =
+    let g = wrap-gives c h l in
+    let q = g .1 in
+    let u = unwrap-gives t h′ (ap length q ∙ wrapped-length f l) (ap rightlyWrapped q ∙ wrapped-right f l) in
+    (g .0, u .0, u .1 ∙ ap innerOf q ∙ wrapped-inner f l)
 
--- bytes that are unwrapped and wrapped: number 0 and the same bytes
-pub unwrap-wrap : {n : ℕ} {w held f room w′ : List ℕ} → Unwrap w held 0 f → Wrap f room n w′ → length room ≡ 15 → (n ≡ 0) × (w′ ≡ w)
-unwrap-wrap {n} {w} c t h =
-    let g = unwrap-gave c in
-    let k = wrap-gives t h (ap length (g .3) ∙ right-inner-length w (g .2)) in
-    (k .0, k .1 ∙ ap wrappedOf (g .3) ∙ right-wrapped w (g .2))
+-- every fifteen bytes that are rightly wrapped, unwrapped and wrapped: both calls give 0, and the second the same bytes
+pub unwrap-wrap : {n k : ℕ} {w held f room w′ : List ℕ} → rightlyWrapped w ≡ true → length held ≡ 12 → length room ≡ 15
+    → Unwrap w held n f → Wrap f room k w′ → (n ≡ 0) × (k ≡ 0) × (w′ ≡ w)
+unwrap-wrap {n} {k} {w} right h h′ c t =
+    let g = unwrap-gives c h (right-says w right .0) right in
+    let v = wrap-gives t h′ (ap length (g .1) ∙ right-inner-length w right) in
+    (g .0, v .0, v .1 ∙ ap wrappedOf (g .1) ∙ right-wrapped w right)
 
 -- two frames never share a wrapping
 pub wrap-injective : {f g held held′ w : List ℕ} → Wrap f held 0 w → Wrap g held′ 0 w → f ≡ g

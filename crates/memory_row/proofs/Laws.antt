@@ -1,13 +1,14 @@
--- The laws of a shown row: eight cells where the number is 0, none where it isn't; and of which memory.
+-- The laws of a shown row: eight cells where the number is 0, none where it isn't; of which memory, and where they lie.
 -- Assumes nothing.
 use mathlib.Core.Path.{_≡_, refl}
 use mathlib.Core.Bool.{Bool, true, false, cond}
 use mathlib.Core.List.{List, []}
-use Prim.Native.Nat.{ℕ}
+use Prim.Native.Nat.{ℕ, _+_}
 use native.Mathlib.Nat.{suc-ne-zero}
 use native.Mathlib.Omega.{arith}
 use lib.Dec.{eqb}
 use lib.ListN.{length}
+use denote.Ref.{RefT, ptr, now}
 use borrow.Author.Tests.{eqb-true}
 use Rattle.base.specs.Parts.{part}
 use Rattle.base.proofs.Choice.{both-true}
@@ -18,7 +19,7 @@ use Rattle.memory_address.specs.declared.Address.the-variants.{Flash, Eeprom}
 use Rattle.memory_address.specs.declared.Ruled.{Ruled}
 use Rattle.memory_address.specs.declared.Ruled.the-variants.{Legal, Illegal}
 use Rattle.memory_address.proofs.Laws.{Within, ruled-within, flash-ruled, eeprom-ruled}
-use Rattle.memory_row.specs.Shown.{rowAt, shown, shownNumber}
+use Rattle.memory_row.specs.Shown.{rowAt, shown, shownAt, shownNumber}
 
 full-lengths : (flash eeprom : List ℕ) → full flash eeprom ≡ true → (length flash ≡ 65536) × (length eeprom ≡ 1024)
 full-lengths flash eeprom e =
@@ -58,3 +59,14 @@ pub shown-eeprom : (flash eeprom : List ℕ) (a : ℕ) → full flash eeprom ≡
     → shown flash eeprom a ≡ part eeprom (eepromCell a) 8
 unfolding shown
 shown-eeprom flash eeprom a f l = simp (f, eeprom-ruled a 0x01 l)
+
+-- "the eight cells themselves": the part lies in the memory that is lent, as many places on as the address or the cell says
+pub lies-in-flash : (flash eeprom : RefT (List ℕ)) (a : ℕ) → full (now flash) (now eeprom) ≡ true → legalFlash a 0x01 ≡ true
+    → shownAt flash eeprom a ≡ (ptr flash .0, a + ptr flash .1)
+unfolding shownAt
+lies-in-flash flash eeprom a f l = simp (f, flash-ruled a 0x01 l)
+
+pub lies-in-eeprom : (flash eeprom : RefT (List ℕ)) (a : ℕ) → full (now flash) (now eeprom) ≡ true → legalEeprom a 0x01 ≡ true
+    → shownAt flash eeprom a ≡ (ptr eeprom .0, eepromCell a + ptr eeprom .1)
+unfolding shownAt
+lies-in-eeprom flash eeprom a f l = simp (f, eeprom-ruled a 0x01 l)

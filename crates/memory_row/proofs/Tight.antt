@@ -1,4 +1,5 @@
--- Any two outcomes that a contract allows for one input are equal: the whole result.
+-- Any two outcomes that a contract allows for one input are equal: the whole result. Of a part that is its cells, and where they lie.
+-- (The logic's own name of a reference, which no program sees, is new with each call.)
 -- The contracts are the generated `Reads`: nothing is said of a body.
 use mathlib.Core.Path.{_≡_, _∙_, sym}
 use contract.Lifetimes.{Lfts}
@@ -14,8 +15,8 @@ use Rattle.memory_row.proofs.show_number.Reads as show-number-reads
 
 pub show-row-tight : (κs : Lfts 1) (a : ArgsD show-row-signature κs) (r r′ : ResD show-row-signature κs)
     (s s′ : AtExit (endedOf 1 show-row-kinds.ps show-row-kinds.r) κs)
-    → show-row-reads.Post κs a r s → show-row-reads.Post κs a r′ s′ → r .now ≡ r′ .now
-show-row-tight κs a r r′ s s′ p q = p ∙ sym q
+    → show-row-reads.Post κs a r s → show-row-reads.Post κs a r′ s′ → (r .now ≡ r′ .now) × (r .ptr ≡ r′ .ptr)
+show-row-tight κs a r r′ s s′ p q = (p .0 ∙ sym (q .0), p .1 ∙ sym (q .1))
 
 pub show-number-tight : (κs : Lfts 2) (a : ArgsD show-number-signature κs) (r r′ : ResD show-number-signature κs)
     (s s′ : AtExit (endedOf 2 show-number-kinds.ps show-number-kinds.r) κs)

@@ -1,6 +1,7 @@
 // Showing a row: the eight cells themselves, a part of FLASH or of EEPROM as the address says.
 ghost use mathlib.Core.Path.{_≡_};
-ghost use Rattle.memory_row.specs.Shown.{shown, shownNumber};
+ghost use denote.Ref.{ptr};
+ghost use Rattle.memory_row.specs.Shown.{shown, shownAt, shownNumber};
 use memory_address::Address;
 use memory_address::EEPROM_CELLS;
 use memory_address::EEPROM_FIRST;
@@ -11,7 +12,9 @@ use memory_address::Ruled;
 // The eight cells at an address that is legal to read. The part is empty where a memory has the wrong length or the address is
 // illegal to read; `show_number` says which.
 pub fn show_row<'a>(flash: &'a [u8], eeprom: &'a [u8], at: u32) -> &'a [u8]
-    ensures { λ r. ⌜ now r ≡ shown (now (flash .entry)) (now (eeprom .entry)) at ⌝ }
+    ensures { λ r. ⌜
+        (now r ≡ shown (now (flash .entry)) (now (eeprom .entry)) at)
+        × (ptr r ≡ shownAt (flash .entry) (eeprom .entry) at) ⌝ }
 {
     if flash.len() != FLASH_CELLS {
         return &flash[..0];

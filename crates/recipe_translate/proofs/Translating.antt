@@ -1,7 +1,7 @@
 -- What the translator's real contract says of recipes: the generated `Reads`, whatever outcome it allows. Each is the law over definitions,
 -- of the crate recipe, carried over.
 -- Assumes nothing.
-use mathlib.Core.Path.{_≡_, sym, ap, _∙_}
+use mathlib.Core.Path.{_≡_, sym, ap, subst, _∙_}
 use mathlib.Core.List.{List, _++_}
 use Prim.Native.Nat.{ℕ, _*_, _≤_, _<_}
 use native.Mathlib.Omega.{arith}
@@ -10,7 +10,6 @@ use borrow.Fn.World.{ArgsD, ResD}
 use denote.Triple.Clauses.{AtExit}
 use borrow.Fn.Kinds.{endedOf}
 use lib.ListN.{length, drop}
-use Rattle.base.specs.Parts.{Bytes}
 use Rattle.recipe.specs.declared.Translated.{Translated}
 use Rattle.recipe.specs.declared.Translated.the-variants.{Frames, Refused}
 use Rattle.recipe.specs.Items.{Recipe, Legal, printed}
@@ -21,6 +20,7 @@ use Rattle.recipe.proofs.Accepts.{accepts-legal, output-legal, short-output, pr
 use Rattle.recipe.proofs.OnlyLegal.{accepts-only}
 use Rattle.recipe.proofs.Framing.{most-frames}
 use Rattle.recipe.proofs.Answers.{refusal-first}
+use Rattle.recipe_translate.specs.Taken.{BytesIfTaken}
 use Rattle.recipe_translate.proofs.translate.{signature}
 use Rattle.recipe_translate.proofs.translate.Kinds as kinds
 use Rattle.recipe_translate.proofs.translate.Reads as reads
@@ -62,11 +62,12 @@ module _ (κs : Lfts 2) (a : ArgsD signature κs) (r : ResD signature κs) (s : 
       (p .0 ∙ t, p .1 ∙ ap (λ (x : Translated). outputAfter x input before) t)
 
   -- whatever bytes it accepts are those of a legal recipe, and of no other; the count is that recipe's, and at most 36,829
-  pub accepts-only-legal : Bytes input → (count : ℕ) → r ≡ Frames count
+  pub accepts-only-legal : (count : ℕ) → r ≡ Frames count
       → Legal (recipeOf input) × (input ≡ printed (recipeOf input)) × ((q : Recipe) → Legal q → input ≡ printed q → q ≡ recipeOf input)
       × (count ≡ frameCount (recipeOf input)) × (count ≤ 36829)
-  accepts-only-legal b count e =
-      let o = accepts-only input (length before) count b (sym (p .0) ∙ e) in (
+  accepts-only-legal count e =
+      let bytes = subst (λ (t : Translated). BytesIfTaken t input) e (p .2) in
+      let o = accepts-only input (length before) count bytes (sym (p .0) ∙ e) in (
         o .0,
         o .1,
         (λ q legal h. printed-once q (recipeOf input) legal (o .0) (sym h ∙ o .1)),

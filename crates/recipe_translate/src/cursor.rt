@@ -2,6 +2,7 @@
 ghost use mathlib.Core.Path.{_≡_};
 ghost use Prim.Native.Nat.{_<_};
 ghost use lib.ListN.{length, drop};
+ghost use Rattle.base.specs.Parts.{Bytes};
 ghost use Rattle.recipe.specs.Faults.{faultAt};
 ghost use Rattle.recipe_translate.specs.Internal.Steps.{nextOf, AtItem};
 
@@ -37,10 +38,10 @@ pub fn fault_at(input: &[u8], place: usize, number: usize, ended: bool) -> u8
     0
 }
 
-// The cursor behind the item that it stands at.
+// The cursor behind the item that it stands at. It reads the input, which so is known to hold bytes.
 pub fn next(input: &[u8], c: Cursor) -> Cursor
     requires { ⌜ AtItem (now input) c ⌝ }
-    ensures { λ r. ⌜ r ≡ nextOf (now (input .entry)) c ⌝ }
+    ensures { λ r. ⌜ (r ≡ nextOf (now (input .entry)) c) × Bytes (now (input .entry)) ⌝ }
 {
     let place = c.place;
     let kind = input[place];

@@ -10,6 +10,7 @@ ghost use lib.ListN.{length, drop};
 ghost use Rattle.recipe.specs.Frames.{framesOf, joined, frameCount};
 ghost use Rattle.recipe.specs.Reading.{atEnd, reading, recipeOf};
 ghost use Rattle.recipe.specs.Translation.{checked, translated, translatedOutput};
+ghost use Rattle.recipe_translate.specs.Taken.{BytesIfTaken};
 use cursor::Cursor;
 use memory_address::Group;
 use memory_address::Module;
@@ -17,7 +18,7 @@ use recipe::Translated;
 
 // Reads a recipe through: its frame count, or the refusal of the first item at fault, or of the end.
 fn check(input: &[u8]) -> Translated
-    ensures { λ r. ⌜ r ≡ checked (now (input .entry)) ⌝ }
+    ensures { λ r. ⌜ (r ≡ checked (now (input .entry))) × BytesIfTaken r (now (input .entry)) ⌝ }
 {
     let mut c = Cursor {
         place: 0,
@@ -76,7 +77,8 @@ fn put_frames(input: &[u8], output: &mut [u8])
 pub fn translate(recipe: &[u8], output: &mut [u8]) -> Translated
     ensures { λ r. ⌜
         (r ≡ translated (now (recipe .entry)) (length (now (output .entry))))
-        × (now (output .exit) ≡ translatedOutput (now (recipe .entry)) (now (output .entry))) ⌝ }
+        × (now (output .exit) ≡ translatedOutput (now (recipe .entry)) (now (output .entry)))
+        × BytesIfTaken r (now (recipe .entry)) ⌝ }
 {
     match check(recipe) {
         Translated::Refused { number, place } => Translated::Refused {

@@ -9,7 +9,6 @@ use native.Mathlib.Omega.{arith}
 use lib.Dec.{ltb}
 use lib.ListN.{length, drop}
 use borrow.Author.Tests.{ltb-true, ltb-false}
-use Rattle.base.specs.Parts.{Bytes}
 use Rattle.node_rules.specs.declared.Node.{Node}
 use Rattle.node_rules.specs.Step.{Step}
 use Rattle.node_rules.specs.Runs.{State, endOf, behindFrame}
@@ -54,10 +53,10 @@ translate-short : {input output output′ : List ℕ} {t : Translated} → Trans
     → input ≡ printed q → length output < 12 * frameCount q → t ≡ Refused 26 0
 translate-short (call κs a r s p) q legal e short = refuses-short-output κs a r s p q legal e short .0
 
-translate-only : {input output output′ : List ℕ} {t : Translated} → Translate input output t output′ → Bytes input → (count : ℕ)
+translate-only : {input output output′ : List ℕ} {t : Translated} → Translate input output t output′ → (count : ℕ)
     → t ≡ Frames count → Legal (recipeOf input) × (input ≡ printed (recipeOf input)) × (count ≡ frameCount (recipeOf input))
-translate-only (call κs a r s p) bytes count e =
-    let o = accepts-only-legal κs a r s p bytes count e in
+translate-only (call κs a r s p) count e =
+    let o = accepts-only-legal κs a r s p count e in
     (o .0, o .1, o .3)
 
 module _ {input output output′ : List ℕ} {t : Translated} (translates : Translate input output t output′) where
@@ -91,12 +90,12 @@ module _ {input output output′ : List ℕ} {t : Translated} (translates : Tran
       go false h = ltb-false _ _ h
 
   -- whatever bytes the translator accepted, and then calls over the frames in its output
-  pub demand-three-accepted : Bytes input → (count : ℕ) → t ≡ Frames count
+  pub demand-three-accepted : (count : ℕ) → t ≡ Frames count
       → (n : Node) (m : Memories) (steps : List Step) (after : State) → Ready n (recipeOf input) → Full m
       → CanFrames (firstFrames count output′) (over n m) steps after
       → Legal (recipeOf input) × (input ≡ printed (recipeOf input)) × Arrived (recipeOf input) n m (toldAll steps) after
-  demand-three-accepted bytes count f n m steps after ready full calls =
-      let o = translate-only translates bytes count f in
+  demand-three-accepted count f n m steps after ready full calls =
+      let o = translate-only translates count f in
       let q = recipeOf input in
       let room = had-room q (o .0) (o .1) count f in (
         o .0,

@@ -29,7 +29,7 @@ done : (c : tie.Then1)
     → (length (c .before .before .before .before .args .«data» .now) ≡ 8)
     × (length (c .before .before .before .before .args .frame .now) ≡ 12)
     × (upperFlags (c .before .before .before .before .args .frame .now) ≡ false)
-done c = to-can-done _ _ (sym (c .before .to-can-number .ensures) ∙ c .if1 .taken)
+done c = to-can-done _ _ (sym (c .before .to-can-number .ensures .0) ∙ c .if1 .taken)
 
 to-can-number-requires : tie.Need-to-can-number-requires
 to-can-number-requires c κs = search needs
@@ -59,14 +59,18 @@ returns c =
     let f = t .before .before .before .before .args .frame .now in
     let h = done t in
     let e = mix-all (d .result) _ _ refl (h .0 ∙ sym (ap length (d .ensures))) in (
-      identified _ _ _ f (t .before .to-can-number .ensures) (t .if1 .taken) (c .identifier-of .ensures),
+      identified _ _ _ f (t .before .to-can-number .ensures .0) (t .if1 .taken) (c .identifier-of .ensures),
       rw (t .if1 .taken) (k .copy .ensures .1 ∙ e ∙ d .ensures ∙ listed-rest f 4 8 (h .1)),
+      t .before .to-can-number .ensures .1,
     )
 
 returns-2 : tie.Need-returns-2
 returns-2 c =
-    let f = c .before .before .before .before .args .frame .now in
-    (unidentified _ _ f (c .before .to-can-number .ensures) (c .if1 .left), rw (ne-eqb _ 0 (c .if1 .left)))
+    let f = c .before .before .before .before .args .frame .now in (
+      unidentified _ _ f (c .before .to-can-number .ensures .0) (c .if1 .left),
+      rw (ne-eqb _ 0 (c .if1 .left)),
+      c .before .to-can-number .ensures .1,
+    )
 
 pub to-can-spec : {M : Type 1} → statement M
 to-can-spec =

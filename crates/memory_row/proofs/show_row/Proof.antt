@@ -7,11 +7,12 @@ use Prim.Native.Nat.{ℕ, _-_}
 use native.Mathlib.Nat.{add-sub-cancel-left}
 use native.Mathlib.Omega.{arith}
 use lib.ListN.{length, take, drop}
+use denote.Ref.{RefT, now}
 use Rattle.memory_address.specs.Rule.{ruled}
 use Rattle.memory_address.specs.declared.Ruled.{Ruled}
 use Rattle.memory_address.specs.declared.Ruled.the-variants.{Legal, Illegal}
 use Rattle.memory_address.proofs.Laws.{Within, ruled-within}
-use Rattle.memory_row.specs.Shown.{rowAt, shown}
+use Rattle.memory_row.specs.Shown.{rowAt, rowLies, shown, shownAt}
 use borrow.Author.Needs.{needs}
 use Rattle.memory_row.proofs.show_row.Statement.{statement}
 use Rattle.memory_row.proofs.show_row.Tie as tie
@@ -22,7 +23,14 @@ unfolding shown
 shown-is flash eeprom a r l k q =
     simp (eq-eqb (length flash) 65536 l, eq-eqb (length eeprom) 1024 k) (ap (rowAt flash eeprom) (sym q))
 
--- where the eight cells of a case of the rule's answer lie
+-- and where it lies
+shown-lies : (flash eeprom : RefT (List ℕ)) (a : ℕ) (r : Ruled) → length (now flash) ≡ 65536 → length (now eeprom) ≡ 1024
+    → ruled a 0x01 ≡ r → rowLies flash eeprom r ≡ shownAt flash eeprom a
+unfolding shownAt
+shown-lies flash eeprom a r l k q =
+    simp (eq-eqb (length (now flash)) 65536 l, eq-eqb (length (now eeprom)) 1024 k) (ap (rowLies flash eeprom) (sym q))
+
+-- where the eight cells of a case of the rule's answer lie within the memory
 lies : (a : ℕ) (r : Ruled) → ruled a 0x01 ≡ r → Within 8 a r
 lies a r q = subst (Within 8 a) q (ruled-within a 0x01)
 
@@ -30,15 +38,18 @@ slice-aggregate-result : tie.Need-slice-aggregate-result
 slice-aggregate-result c = search needs
 
 returns : tie.Need-returns
-unfolding shown
-returns c = simp (ne-eqb _ 65536 (c .before .if1 .taken))
+unfolding shown shownAt
+returns c = let l = ne-eqb _ 65536 (c .before .if1 .taken) in (simp l, simp l)
 
 slice-aggregate-result-2 : tie.Need-slice-aggregate-result-2
 slice-aggregate-result-2 c = search needs
 
 returns-2 : tie.Need-returns-2
-unfolding shown
-returns-2 c = simp (ne-eqb _ 1024 (c .before .if2 .taken), eq-eqb _ 65536 (c .before .before .if1 .left))
+unfolding shown shownAt
+returns-2 c =
+    let l = eq-eqb _ 65536 (c .before .before .if1 .left) in
+    let k = ne-eqb _ 1024 (c .before .if2 .taken) in
+    (simp (k, l), simp (k, l))
 
 rule-requires : tie.Need-rule-requires
 rule-requires c κs = search needs
@@ -110,10 +121,12 @@ returns-3 c =
     let f = k .cells2 .given .0 .0 .0 in
     let q = sym (k .before .before .before .before .before .rule .ensures) ∙ k .before .before .before .cells .given .1 ∙ ap Legal
     (k .cells2 .given .1) in
-    ap (λ (n : ℕ). take n (drop f (args .flash .now))) (add-sub-cancel-left f 8)
-    ∙ shown-is (args .flash .now) (args .eeprom .now) (args .at) _
-    (k .before .before .before .before .before .before .before .if1 .left)
-    (k .before .before .before .before .before .before .if2 .left) q
+    let l = k .before .before .before .before .before .before .before .if1 .left in
+    let m = k .before .before .before .before .before .before .if2 .left in (
+      ap (λ (n : ℕ). take n (drop f (args .flash .now))) (add-sub-cancel-left f 8)
+          ∙ shown-is (args .flash .now) (args .eeprom .now) (args .at) _ l m q,
+      shown-lies (args .flash) (args .eeprom) (args .at) _ l m q,
+    )
 
 returns-4 : tie.Need-returns-4
 returns-4 c =
@@ -122,17 +135,23 @@ returns-4 c =
     let e = k .cells3 .given .0 .0 .0 - 0xF00000 in
     let q = sym (k .before .before .before .before .before .rule .ensures) ∙ k .before .before .before .cells .given .1 ∙ ap Legal
     (k .cells3 .given .1) in
-    ap (λ (n : ℕ). take n (drop e (args .eeprom .now))) (add-sub-cancel-left e 8)
-    ∙ shown-is (args .flash .now) (args .eeprom .now) (args .at) _
-    (k .before .before .before .before .before .before .before .if1 .left)
-    (k .before .before .before .before .before .before .if2 .left) q
+    let l = k .before .before .before .before .before .before .before .if1 .left in
+    let m = k .before .before .before .before .before .before .if2 .left in (
+      ap (λ (n : ℕ). take n (drop e (args .eeprom .now))) (add-sub-cancel-left e 8)
+          ∙ shown-is (args .flash .now) (args .eeprom .now) (args .at) _ l m q,
+      shown-lies (args .flash) (args .eeprom) (args .at) _ l m q,
+    )
 
 returns-5 : tie.Need-returns-5
 returns-5 c =
     let k = c .before .before .before in
     let args = k .before .before .before .before .before .args in
     let q = sym (k .rule .ensures) ∙ c .before .enum-told .given .1 in
-    shown-is (args .flash .now) (args .eeprom .now) (args .at) Illegal (k .before .before .if1 .left) (k .before .if2 .left) q
+    let l = k .before .before .if1 .left in
+    let m = k .before .if2 .left in (
+      shown-is (args .flash .now) (args .eeprom .now) (args .at) Illegal l m q,
+      shown-lies (args .flash) (args .eeprom) (args .at) Illegal l m q,
+    )
 
 pub show-row-spec : {M : Type 1} → statement M
 show-row-spec =

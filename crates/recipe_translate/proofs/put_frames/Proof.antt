@@ -52,7 +52,7 @@ next-requires c κs =
 loop-less : tie.Need-loop-less Inv-loop μ-loop
 loop-less c = nearer (c .before .before .before .before .before .before .before .before .before .before .before .before .before .args
     .input .now) (c .before .before .before .before .before .before .before .before .loop .c) (c .next .result)
-    (c .before .before .before .before .before .before .if1 .taken) (c .next .ensures)
+    (c .before .before .before .before .before .before .if1 .taken) (c .next .ensures .0)
 
 loop-again : tie.Need-loop-again Inv-loop μ-loop
 loop-again c =
@@ -73,7 +73,7 @@ loop-again c =
     (c .before .before .before .before .before .before .before .before .loop .output)
     (c .before .before .before .before .before .before .before .before .loop .c)
     (c .before .before .before .before .before .before .before .before .loop .inv) there
-    _ (c .next .result) (c .before .before .before .put-item .ensures) (c .next .ensures)
+    _ (c .next .result) (c .before .before .before .put-item .ensures) (c .next .ensures .0)
 
 same-length : tie.Need-same-length Inv-loop μ-loop
 same-length c = emitted-long (c .before .before .before .before .before .before .before .args .input .now)

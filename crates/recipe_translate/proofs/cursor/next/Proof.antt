@@ -1,5 +1,8 @@
--- `recipe_translate::cursor::next` meets its contract: the kind that it reads is the kind of what stands there.
+-- `recipe_translate::cursor::next` meets its contract: the kind that it reads is the kind of what stands there. What is known
+-- of the byte that it reads is known of all: it is below 256.
 -- Assumes nothing.
+use native.Mathlib.Omega.{arith}
+use Rattle.base.proofs.Bytes.{bytes-by}
 use Rattle.recipe_translate.proofs.Faulting.{next-is}
 use borrow.Author.Needs.{needs}
 use Rattle.recipe_translate.proofs.cursor.next.Statement.{statement}
@@ -28,9 +31,11 @@ add-t13 c = search needs
 
 returns : tie.Need-returns
 returns c =
-    next-is (c .before .before .before .before .before .before .args .input .now)
-    (c .before .before .before .before .before .before .args .c) (c .before .before .before .body-length .result)
-    (c .before .frames-of-kind .result) (c .before .before .before .body-length .ensures .0) (c .before .frames-of-kind .ensures .0)
+    let input = c .before .before .before .before .before .before .args .input .now in (
+      next-is input (c .before .before .before .before .before .before .args .c) (c .before .before .before .body-length .result)
+          (c .before .frames-of-kind .result) (c .before .before .before .body-length .ensures .0) (c .before .frames-of-kind .ensures .0),
+      bytes-by input (λ i l. omega (arith, c .before .before .before .before .before .shared-slice-known .given i)),
+    )
 
 pub next-spec : {M : Type 1} → statement M
 next-spec =
