@@ -12,7 +12,7 @@ use Rattle.base.proofs.Choice.{by-cond, both-true, true-both}
 use Rattle.memory_address.specs.declared.Address.the-variants.{Flash, Eeprom}
 use Rattle.memory_address.specs.declared.Ruled.{Ruled}
 use Rattle.memory_address.specs.declared.Ruled.the-variants.{Legal, Illegal}
-use Rattle.memory_address.specs.Rule.{ruled, isFlash, isEeprom}
+use Rattle.memory_address.specs.Rule.{ruled, isFlash, isEeprom, numbered}
 
 -- a multiple of step from low to high, both in it
 abbrev pub Multiple : ℕ → ℕ → ℕ → ℕ → Type 0
@@ -145,3 +145,7 @@ pub ends : (map (λ a. ruled a 0x01) (0x000FF8 ∷ 0x001000 ∷ 0x001004 ∷ 0x0
     ≡ Illegal ∷ flashAt 0x001000 ∷ Illegal ∷ flashAt 0x00FFC0 ∷ Illegal ∷ Illegal ∷ Illegal ∷ [])
 unfolding ruled
 ends = (refl, refl, refl, refl, refl)
+
+-- the number of a call that works at an address: 1 where a memory has another length, also where the address is illegal; then 8; else 0
+pub number-says : (numbered false false ≡ 1) × (numbered false true ≡ 1) × (numbered true false ≡ 8) × (numbered true true ≡ 0)
+number-says = (refl, refl, refl, refl)
