@@ -1,3 +1,4 @@
 pub mod Done
 pub mod Fields
 pub mod Wrapped
+pub mod Pinned

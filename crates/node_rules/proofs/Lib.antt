@@ -18,3 +18,6 @@ pub mod Agreement
 pub mod Witnesses
 pub mod AgreementWitness
 pub mod Reached
+pub mod Refusing
+pub mod TwoFaults
+pub mod Pinned
