@@ -20,6 +20,7 @@ mod recipes;
 #[cfg(test)]
 mod samples;
 mod session;
+mod uart_coverage;
 
 use std::io::{self, BufWriter, Read, Write};
 use std::process::ExitCode;
