@@ -201,7 +201,11 @@ fn around_rows(tidied: &Node, session: &Session) -> Vec<String> {
     };
     let around = first > 0 && cells[first - 1] != plain && cells[first + count] != plain;
     let row = format!("0x040 {command:?} {} between cells not 0x{plain:02X}", memory(address));
-    if around { vec![row] } else { vec![] }
+    if around {
+        vec![row]
+    } else {
+        vec![]
+    }
 }
 
 /// The memory of an address, in words.
