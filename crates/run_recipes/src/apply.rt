@@ -33,7 +33,8 @@ fn prepare(h: Header, flash: &mut [u8], eeprom: &mut [u8]) {
 // what the header says.
 fn started(h: Header, flash: &[u8], eeprom: &[u8]) -> Handed {
     let begin = h.begin;
-    let r = node::restart(node::fresh([0; 6]), start::pin(begin.pin), true, flash, eeprom);
+    let pin = start::pin(begin.pin);
+    let r = node::restart(node::fresh([0; 6]), pin, true, flash, eeprom);
     let node = start::begun(begin, r.node);
     Handed { node, answers: 0 }
 }

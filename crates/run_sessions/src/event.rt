@@ -46,7 +46,8 @@ fn can_in(
     eeprom: &mut [u8],
 ) -> Session {
     slices::append(space, 0, slices::part(rec, 3, 61));
-    can_frame(s, slices::part(space, 0, handed::short(rec, 1) as usize), flash, eeprom)
+    let frame = slices::part(space, 0, handed::short(rec, 1) as usize);
+    can_frame(s, frame, flash, eeprom)
 }
 
 fn can_frame(s: Session, frame: &[u8], flash: &mut [u8], eeprom: &mut [u8]) -> Session {
@@ -96,7 +97,9 @@ fn show_lent<'a>(s: Session, at: u32, flash: &'a [u8], eeprom: &'a [u8]) -> Sess
 
 // From this event on so many cells of each memory are lent, or as many as there are.
 fn lend(s: Session, rec: &[u8]) -> Session {
-    session::lending(s, handed::number(rec, 1) as usize, handed::number(rec, 5) as usize)
+    let flash = handed::number(rec, 1) as usize;
+    let eeprom = handed::number(rec, 5) as usize;
+    session::lending(s, flash, eeprom)
 }
 
 // A cell of FLASH, or of EEPROM from 0xF00000 on, becomes a value.

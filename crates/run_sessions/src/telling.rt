@@ -80,5 +80,6 @@ pub fn write_node(s: Session, head: &[u8], replies: &[u8], n: Node) -> Session {
     let receiver = n.receiver;
     let held = receiver.held;
     let record = run_record::bytes_of(n);
-    write_four(session::with_node(s, n), head, replies, &record, &[held[14]])
+    let next = session::with_node(s, n);
+    write_four(next, head, replies, &record, &[held[14]])
 }
