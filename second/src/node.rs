@@ -21,6 +21,13 @@ pub struct Staged {
     pub address: Address,
 }
 
+impl Staged {
+    /// Whether it counts as staged: the address rule allows the command at this very address.
+    pub fn legal(self) -> bool {
+        rule(self.address.raw(), self.command) == Some(self.address)
+    }
+}
+
 #[derive(Clone, Copy, PartialEq, Eq, Debug)]
 pub enum Mode {
     Normal { started: bool },
@@ -102,7 +109,7 @@ impl Node {
     /// many held bytes and held bytes not starting with 0xAA. What means nothing becomes 0.
     pub fn tidy(&mut self) {
         if let Mode::Programming(Some(staged)) = self.mode {
-            if rule(staged.address.raw(), staged.command) != Some(staged.address) {
+            if !staged.legal() {
                 self.mode = Mode::Programming(None);
             }
         }

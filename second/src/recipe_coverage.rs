@@ -2,10 +2,9 @@
 
 use crate::frames::START;
 use crate::memory::Command;
-use crate::node::HELD;
+use crate::node::{Staged, HELD};
 use crate::recipe::{body_length, illegal, items, translate, LEAVE, MOST_ITEMS, OPEN};
 use crate::recipe_stream::{read, Trial};
-use crate::recipes::tidy;
 use std::collections::HashMap;
 use std::io::{self, Write};
 
@@ -69,7 +68,7 @@ fn begun(trial: &Trial, port: &str) -> Vec<String> {
         return vec![];
     }
     let staged = begin.staged.map(|staged| match staged.command {
-        _ if !tidy(staged) => "an illegal command staged",
+        _ if !staged.legal() => "an illegal command staged",
         Command::Read => "a read staged",
         Command::Write => "a write staged",
         Command::Erase => "an erase staged",
@@ -86,7 +85,7 @@ fn begun(trial: &Trial, port: &str) -> Vec<String> {
     if trial.step != 0 {
         rows.push("accepted, memories with a pattern".to_string());
     }
-    if begin.staged.is_some_and(tidy) && held == Some("bytes held") && pin.is_some() {
+    if begin.staged.is_some_and(Staged::legal) && held == Some("bytes held") && pin.is_some() {
         if trial.step != 0 {
             rows.push(format!("accepted {port}, staged, held, pin CAN only and a pattern"));
         }

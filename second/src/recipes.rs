@@ -1,7 +1,7 @@
 //! Makes recipe streams: legal recipes, and recipes damaged in every way.
 
 use crate::frames;
-use crate::memory::{rule, Address, Command, BLOCK, EEPROM_BASE, ROW};
+use crate::memory::{Address, Command, BLOCK, EEPROM_BASE, ROW};
 use crate::node::{Staged, HELD};
 use crate::random::Random;
 use crate::recipe::*;
@@ -328,11 +328,6 @@ fn begin(random: &mut Random, numbers: [u8; 2], full: bool) -> Begin {
     }
     let can_and_uart = !full && random.chance(75);
     Begin { can_and_uart, staged: staged(random, full), held_count, held }
-}
-
-/// Whether what is staged counts as staged.
-pub fn tidy(staged: Staged) -> bool {
-    rule(staged.address.raw(), staged.command) == Some(staged.address)
 }
 
 /// Writes a stream of so many recipes.

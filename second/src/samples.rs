@@ -9,6 +9,7 @@ use crate::numbers::*;
 use crate::recipe::*;
 use crate::recipe_stream::{read, Begin, Trial};
 use crate::session::{fill, Session};
+use crate::uart_coverage::{Run, RUN_ROWS};
 
 /// A session with blank memories, own numbers 05 0A, BOOTFL as given, restarted.
 fn session(bootfl: u8, pin: u8) -> Session {
@@ -316,6 +317,36 @@ fn spoiled_frames() {
     assert_eq!(uart(&mut session, &frame[3 * 7..]).0, [INCOMPLETE; 8]);
     assert_eq!(session.node.held_count, 0);
     assert_eq!(last(uart(&mut session, frame).0), Some(DONE));
+}
+
+/// The rows that these UART bytes reach in a session, with a restart behind the first so many.
+fn run_rows(all: &str, before_restart: usize) -> Vec<&'static str> {
+    let mut session = session(0x00, 1);
+    let mut run = Run::new();
+    let mut rows = Vec::new();
+    let mut events: Vec<Event> = bytes(all).into_iter().map(Event::UartByte).collect();
+    if before_restart > 0 {
+        events.insert(before_restart, Event::Restart { pin: 1, self_test: 0 });
+    }
+    for event in events {
+        let before = session.node.clone();
+        let number = session.apply(&event).unwrap().number;
+        rows.extend(run.take(&before, &event, number));
+    }
+    rows
+}
+
+/// What is told of odd runs of UART bytes, and that nothing is told of a whole frame.
+#[test]
+fn runs_of_uart_bytes() {
+    let frame = "AA 10 40 01 01 00 00 05 0A 00 00 00 00 61 A5";
+    assert_eq!(run_rows(frame, 0), [""; 0]);
+    assert_eq!(run_rows(&format!("2A 2B {frame}"), 0), [""; 0]);
+    assert_eq!(run_rows(&format!("2A AA 01 {frame}"), 0), [RUN_ROWS[0]]);
+    assert_eq!(run_rows("AA 10 40 01 01 77 00 00 05 0A 00 00 00 00 61 A5", 0), [RUN_ROWS[1]]);
+    let lost = "AA 10 40 01 01 00 00 0A 00 00 00 00 61 A5";
+    assert_eq!(run_rows(&format!("{lost} {frame}"), 0), [RUN_ROWS[2]]);
+    assert_eq!(run_rows(frame, 7), [RUN_ROWS[3]]);
 }
 
 /// Sums that are multiples of 65,536, and a stored one that differs in its high byte alone.
