@@ -3,6 +3,7 @@
 
 mod apply_recipes;
 mod coverage;
+mod coverage_rows;
 mod digest;
 mod event;
 mod explain;
