@@ -7,12 +7,15 @@ use crate::node::{Mode, Node, Outcome, Pin};
 use crate::node_record;
 use crate::recipe::{plain_reading, translate};
 use crate::recipe_stream::{read, Trial};
+use crate::session::fill;
 use std::io::{self, Write};
 
 /// The memories before the restart.
 fn memories(trial: &Trial) -> (Vec<u8>, Vec<u8>) {
-    let flash = vec![trial.flash; FLASH_CELLS];
-    let mut eeprom = vec![trial.eeprom; EEPROM_CELLS];
+    let mut flash = vec![0; FLASH_CELLS];
+    let mut eeprom = vec![0; EEPROM_CELLS];
+    fill(&mut flash, trial.flash, trial.step, trial.more);
+    fill(&mut eeprom, trial.eeprom, trial.step, trial.more);
     eeprom[BOOTFL] = 0xFF;
     eeprom[MODULE] = trial.module;
     eeprom[GROUP] = trial.group;
@@ -27,14 +30,34 @@ fn take(digest: &mut Digest, outcome: &Outcome, width: usize) {
     digest.add(&bytes);
 }
 
-/// Compares what the node did with the plain reading; gives what is wrong.
-fn compare(trial: &Trial, node: &Node, flash: &[u8], eeprom: &[u8]) -> Option<String> {
+/// The node before the first frame: restarted, and with what the header puts into its record.
+fn begun(trial: &Trial, lent: &Lent) -> Node {
+    let mut node = Node::fresh([0; 6]);
+    node.restart(lent, trial.begin.pin(), true);
+    trial.begin.put(&mut node);
+    node
+}
+
+/// Compares what the node did with the plain reading; gives what is wrong. A node that doesn't
+/// hear the port, or bears other numbers, does nothing. Bytes held before a delivery by UART are
+/// taken with its first bytes; what that comes to is not told here.
+fn compare(
+    trial: &Trial,
+    before: &Node,
+    node: &Node,
+    flash: &[u8],
+    eeprom: &[u8],
+) -> Option<String> {
     let (mut plain_flash, mut plain_eeprom) = memories(trial);
-    let ours = trial.recipe[1..3] == [trial.module, trial.group];
+    let hears = !trial.uart || before.pin == Pin::CanAndUart;
+    if trial.uart && hears && before.tidied().held_count > 0 {
+        return None;
+    }
+    let ours = hears && trial.recipe[1..3] == [trial.module, trial.group];
     if ours {
         plain_reading(&trial.recipe, &mut plain_flash, &mut plain_eeprom);
     }
-    let mode = if ours { Mode::Waiting } else { Mode::Programming(None) };
+    let mode = if ours { Mode::Waiting } else { before.tidied().mode };
     let cell = |got: &[u8], plain: &[u8]| (0..got.len()).find(|&i| got[i] != plain[i]);
     if let Some(at) = cell(flash, &plain_flash) {
         Some(format!("FLASH cell 0x{at:06X} is {:02X}", flash[at]))
@@ -64,8 +87,8 @@ fn apply(trial: &Trial) -> (String, Option<String>) {
     };
     let (mut flash, mut eeprom) = memories(trial);
     let mut lent = Lent { flash: &mut flash, eeprom: &mut eeprom };
-    let mut node = Node::fresh([0; 6]);
-    node.restart(&lent, Pin::CanAndUart, true);
+    let before = begun(trial, &lent);
+    let mut node = before.clone();
     let mut answers = Digest::default();
     for frame in output[..FRAME * count].chunks_exact(FRAME) {
         if trial.uart {
@@ -84,7 +107,7 @@ fn apply(trial: &Trial) -> (String, Option<String>) {
         Digest::of(&eeprom),
         Digest::of(&node_record::write(&node)),
     );
-    (line, compare(trial, &node, &flash, &eeprom))
+    (line, compare(trial, &before, &node, &flash, &eeprom))
 }
 
 /// Applies all recipes of a stream and prints a line for each; gives the first thing that

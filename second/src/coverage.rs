@@ -1,110 +1,78 @@
 //! Counts which rows of the tables a session stream reaches.
 
-use crate::event::{records, Event};
-use crate::frames::{self, Frame};
-use crate::memory::{asked, Address, Command, BOOTFL};
-use crate::node::{Mode, Node, HELD};
+use crate::coverage_rows::{wanted, RECORD_ROWS, RIMS};
+use crate::event::{records, Event, LONGEST};
+use crate::frames::{self, Frame, FRAME};
+use crate::memory::*;
+use crate::node::{Mode, Node, Staged, HELD};
 use crate::numbers::*;
 use crate::session::Session;
+use crate::uart_coverage::Run;
 use std::collections::HashMap;
 use std::io::{self, Write};
 
-/// The rims of the legal rows and blocks.
-const RIMS: [u32; 9] =
-    [0x000FF8, 0x001000, 0x00FFF8, 0x00FFC0, 0x00FFC8, 0x010000, 0xF00000, 0xF003F8, 0xF00400];
-
-/// Rows that both ports ought to reach: refusals told apart, then what is done.
-const PORT_ROWS: [&str; 38] = [
-    "3 error",
-    "3 waiting",
-    "4 upper flag",
-    "6 of the other mode",
-    "6 of no mode",
-    "7 group, D2 not 0x00",
-    "7 group, D3 another",
-    "7 node",
-    "7 programming",
-    "8 drops nothing",
-    "8 drops a staged command",
-    "9 after an untidy record",
-    "0x100",
-    "0x101 D3 0x00",
-    "0x101 own group",
-    "0x102",
-    "0x103 D3 0x00",
-    "0x103 own group",
-    "0x104",
-    "0x105 D3 0x00",
-    "0x105 own group",
-    "0x105 not started",
-    "0x106",
-    "0x106 to 0x1F1",
-    "0x10D D3 0x00",
-    "0x10D own group",
-    "0x10E",
-    "0x10F D3 0x00",
-    "0x10F own group",
-    "0x111",
-    "0x010",
-    "0x020",
-    "0x030",
-    "0x040 Read FLASH",
-    "0x040 Read EEPROM",
-    "0x040 Write FLASH",
-    "0x040 Write EEPROM",
-    "0x040 Erase FLASH",
-];
-
-/// Rows of one port, and of the calls without a port.
-const OTHER_ROWS: [&str; 33] = [
-    "CAN 4 length",
-    "CAN 0 with bytes held",
-    "UART 10 held",
-    "UART 10 skipped",
-    "UART 0 with 0xAA inside",
-    "restart 0 normal, started",
-    "restart 0 normal, not started",
-    "restart 0 programming",
-    "restart 0 error",
-    "restart 0 BOOTFL 0x00",
-    "restart 0 BOOTFL another",
-    "restart 0 own numbers 00 00",
-    "restart 0 own numbers FF FF",
-    "restart 1",
-    "identifier to frame 0",
-    "identifier to frame 4",
-    "frame to identifier 0",
-    "frame to identifier 4",
-    "wrap 0",
-    "wrap 4",
-    "unwrap 0",
-    "unwrap 4",
-    "unwrap 11",
-    "show 0 FLASH",
-    "show 0 EEPROM",
-    "show 1",
-    "show 8",
-    "rule Read FLASH",
-    "rule Write FLASH",
-    "rule Erase FLASH",
-    "rule Read EEPROM",
-    "rule Write EEPROM",
-    "rule illegal",
-];
-
-/// Every row that a stream ought to reach, in the order of the printed table. CAN can't come to
-/// 2, 10 and 11.
-fn wanted() -> Vec<String> {
-    let mut rows = Vec::new();
-    for port in ["CAN", "UART"] {
-        let uart_alone = [PIN_CAN_ONLY, INCOMPLETE, BAD_WRAPPING];
-        let numbers = (0..=11).filter(|number| port == "UART" || !uart_alone.contains(number));
-        rows.extend(numbers.map(|number| format!("{port} outcome {number}")));
-        rows.extend(PORT_ROWS.iter().map(|row| format!("{port} {row}")));
-        rows.extend(RIMS.iter().map(|rim| format!("{port} 0x030 at the rim 0x{rim:06X}")));
+/// The call of an event, where it takes lent memories.
+fn call(event: &Event) -> Option<&'static str> {
+    match event {
+        Event::CanFrame(_) => Some("CAN"),
+        Event::UartByte(_) => Some("UART"),
+        Event::Restart { .. } => Some("restart"),
+        Event::Show(_) => Some("show"),
+        _ => None,
     }
-    rows.extend(OTHER_ROWS.iter().map(|row| row.to_string()));
+}
+
+/// What lengths of which one is wrong are.
+fn length_row(flash: usize, eeprom: usize) -> &'static str {
+    match (flash, eeprom) {
+        (0, _) => "no FLASH",
+        (_, 0) => "no EEPROM",
+        (EEPROM_CELLS, FLASH_CELLS) => "exchanged",
+        (65_535, 1_025) | (65_537, 1_023) => "one fewer beside one more",
+        (65_535..=65_537, 1_023..=1_025) => "one off",
+        (131_072, EEPROM_CELLS) => "FLASH twice as long",
+        _ => "far off",
+    }
+}
+
+/// The rows of the lengths lent to a call, and of the record that it met.
+fn call_rows(before: &Node, session: &Session, event: &Event, number: u8) -> Vec<String> {
+    let Some(call) = call(event) else { return vec![] };
+    let mut rows = Vec::new();
+    if number == MEMORY_LENGTH {
+        let row = length_row(session.lent_flash, session.lent_eeprom);
+        rows.push(format!("{call} 1 {row}"));
+    }
+    if before.held_count > 255 && before.held[0] == frames::START {
+        if (1..=HELD as u64).contains(&(before.held_count % 256)) {
+            rows.push(format!("{call} {}", RECORD_ROWS[0]));
+        }
+    }
+    if before.held[HELD] != 0 {
+        rows.push(format!("{call} {}", RECORD_ROWS[1]));
+    }
     rows
+}
+
+/// The rows of a done command in programming mode that tell what stands around its cells.
+fn around_rows(tidied: &Node, session: &Session) -> Vec<String> {
+    let Mode::Programming(Some(Staged { command, address })) = tidied.mode else { return vec![] };
+    let (cells, first) = match address {
+        Address::Flash(raw) => (&session.flash, raw as usize),
+        Address::Eeprom(raw) => (&session.eeprom, (raw - EEPROM_BASE) as usize),
+    };
+    let (count, plain) = match command {
+        Command::Read => return vec![],
+        Command::Write => (ROW, 0x00),
+        Command::Erase => (BLOCK, 0xFF),
+    };
+    let around = first > 0 && cells[first - 1] != plain && cells[first + count] != plain;
+    let row = format!("0x040 {command:?} {} between cells not 0x{plain:02X}", memory(address));
+    if around {
+        vec![row]
+    } else {
+        vec![]
+    }
 }
 
 /// The memory of an address, in words.
@@ -116,8 +84,15 @@ fn memory(address: Address) -> &'static str {
 }
 
 /// The rows of a frame that came to its number after 3, 10 and 11, on either port. `before` is
-/// the tidied node, `untidy` whether a staged command had to be dropped.
-fn frame_rows(before: &Node, untidy: bool, frame: &Frame, number: u8) -> Vec<String> {
+/// the tidied node, `untidy` whether a staged command had to be dropped; the session is the one
+/// after it.
+fn frame_rows(
+    before: &Node,
+    untidy: bool,
+    session: &Session,
+    frame: &Frame,
+    number: u8,
+) -> Vec<String> {
     let kind = frames::kind(frame);
     let (d2, d3) = (frame[6], frame[7]);
     let group = [0x101, 0x103, 0x105, 0x10D, 0x10F].contains(&kind);
@@ -130,6 +105,9 @@ fn frame_rows(before: &Node, untidy: bool, frame: &Frame, number: u8) -> Vec<Str
         NOT_HANDLED if known_to_normal || known_to_programming => "6 of the other mode".to_string(),
         NOT_HANDLED => "6 of no mode".to_string(),
         NOT_FOR_NODE if programming => "7 programming".to_string(),
+        NOT_FOR_NODE if group && d2 != 0 && d3 != 0 && d3 != before.group => {
+            "7 group, D2 not 0x00 and D3 neither 0x00 nor own".to_string()
+        }
         NOT_FOR_NODE if group && d2 != 0 => "7 group, D2 not 0x00".to_string(),
         NOT_FOR_NODE if group => "7 group, D3 another".to_string(),
         NOT_FOR_NODE => "7 node".to_string(),
@@ -151,6 +129,12 @@ fn frame_rows(before: &Node, untidy: bool, frame: &Frame, number: u8) -> Vec<Str
     if kind == 0x105 && number == DONE && before.mode == (Mode::Normal { started: false }) {
         rows.push("0x105 not started".to_string());
     }
+    if row_is(&rows, "0x106 to 0x1F1") && firmware_sum(&session.flash) % 65_536 == 0 {
+        rows.push("0x106 to 0x1F1, sum a multiple of 65536".to_string());
+    }
+    if kind == 0x040 && number == DONE {
+        rows.extend(around_rows(before, session));
+    }
     let rim = u32::from_be_bytes([0, frame[4], frame[5], frame[6]]);
     if kind == 0x030 && [DONE, ILLEGAL].contains(&number) && RIMS.contains(&rim) {
         rows.push(format!("0x030 at the rim 0x{rim:06X}"));
@@ -158,8 +142,29 @@ fn frame_rows(before: &Node, untidy: bool, frame: &Frame, number: u8) -> Vec<Str
     rows
 }
 
-/// The rows of a frame or UART byte that the node met in this record.
-fn port_rows(before: &Node, event: &Event, number: u8) -> Vec<String> {
+/// Whether the first row is this one.
+fn row_is(rows: &[String], row: &str) -> bool {
+    rows.first().is_some_and(|first| first == row)
+}
+
+/// The rows of a CAN frame that is not 12 bytes.
+fn odd_length_rows(bytes: &[u8]) -> Vec<String> {
+    let mut rows = vec!["4 length".to_string()];
+    if bytes.len() > LONGEST {
+        rows.push("4 more than 20 bytes".to_string());
+    }
+    if bytes.len() % 256 == FRAME {
+        rows.push("4 a multiple of 256 more than 12 bytes".to_string());
+    }
+    if frames::unwrap(bytes, &mut [0; FRAME]) == DONE {
+        rows.push("4 a wrapped frame".to_string());
+    }
+    rows
+}
+
+/// The rows of a frame or UART byte that the node met in this record; the session is the one
+/// after it.
+fn port_rows(before: &Node, session: &Session, event: &Event, number: u8) -> Vec<String> {
     let tidied = before.tidied();
     let untidy = tidied.mode != before.mode;
     let mut rows = vec![format!("outcome {number}")];
@@ -171,12 +176,12 @@ fn port_rows(before: &Node, event: &Event, number: u8) -> Vec<String> {
         _ if number < DEAF && number != DONE => {}
         Event::CanFrame(bytes) => match Frame::try_from(&bytes[..]) {
             Ok(frame) => {
-                rows.extend(frame_rows(&tidied, untidy, &frame, number));
+                rows.extend(frame_rows(&tidied, untidy, session, &frame, number));
                 if number == DONE && tidied.held_count > 0 {
                     rows.push("0 with bytes held".to_string());
                 }
             }
-            Err(_) => rows.push("4 length".to_string()),
+            Err(_) => rows.extend(odd_length_rows(bytes)),
         },
         Event::UartByte(byte) => match number {
             INCOMPLETE if tidied.held_count > 0 || *byte == frames::START => {
@@ -186,7 +191,7 @@ fn port_rows(before: &Node, event: &Event, number: u8) -> Vec<String> {
             BAD_WRAPPING => {}
             _ => {
                 let frame: Frame = tidied.held[1..HELD - 1].try_into().expect("12 held bytes");
-                rows.extend(frame_rows(&tidied, untidy, &frame, number));
+                rows.extend(frame_rows(&tidied, untidy, session, &frame, number));
                 if number == DONE && tidied.held[1..].contains(&frames::START) {
                     rows.push("0 with 0xAA inside".to_string());
                 }
@@ -216,13 +221,27 @@ fn restart_rows(session: &Session) -> Vec<String> {
         (0xFF, 0xFF) => rows.push("own numbers FF FF"),
         _ => {}
     }
+    if let Mode::Normal { started } = session.node.mode {
+        let sum = firmware_sum(&session.flash);
+        let round = sum % 65_536 == 0;
+        match started {
+            true if round => rows.push("normal, started, sum a multiple of 65536"),
+            false if round => rows.push("normal, not started, sum a multiple of 65536"),
+            _ => {}
+        }
+        if !started && sum % 65_536 == stored_sum(&session.flash) % 65_536 {
+            rows.push("normal, not started, sums apart in the high byte alone");
+        }
+    }
     rows.iter().map(|row| format!("restart 0 {row}")).collect()
 }
 
 /// The rows that one answered event reaches; the session is the one after it.
 fn rows(before: &Node, session: &Session, event: &Event, number: u8) -> Vec<String> {
     let row = match event {
-        Event::CanFrame(_) | Event::UartByte(_) => return port_rows(before, event, number),
+        Event::CanFrame(_) | Event::UartByte(_) => {
+            return port_rows(before, session, event, number)
+        }
         Event::Restart { .. } if number == DONE => return restart_rows(session),
         Event::Restart { .. } => format!("restart {number}"),
         Event::Show(address) if number == DONE => {
@@ -248,14 +267,27 @@ fn rows(before: &Node, session: &Session, event: &Event, number: u8) -> Vec<Stri
 pub fn coverage(stream: &[u8], out: &mut impl Write) -> io::Result<Vec<String>> {
     let mut counts: HashMap<String, u64> = HashMap::new();
     let mut session = Session::new();
+    let mut run = Run::new();
     let mut answered = 0;
     for event in records(stream).filter_map(Event::read) {
         let before = session.node.clone();
-        if let Some(answer) = session.apply(&event) {
-            answered += 1;
-            for row in rows(&before, &session, &event, answer.number) {
-                *counts.entry(row).or_default() += 1;
+        if let Event::Begin { step, .. } = event {
+            run = Run::new();
+            if step != 0 {
+                *counts.entry("begin with mixed memories".to_string()).or_default() += 1;
             }
+        }
+        let Some(answer) = session.apply(&event) else {
+            run.break_off();
+            continue;
+        };
+        answered += 1;
+        let mut reached = rows(&before, &session, &event, answer.number);
+        reached.extend(call_rows(&before, &session, &event, answer.number));
+        let runs = run.take(&before, &event, answer.number);
+        reached.extend(runs.iter().map(|row| format!("UART {row}")));
+        for row in reached {
+            *counts.entry(row).or_default() += 1;
         }
     }
     writeln!(out, "{answered:>9} events with an answer in {} sessions", session.number)?;

@@ -1,10 +1,14 @@
 //! The events of a session stream (PROTOCOL.md), read from records and written to them.
 
-use crate::node_record::NODE;
+use crate::node_record::HANDED;
 
 pub const RECORD: usize = 64;
-/// The longest frame, data or lent output of an event.
+/// The longest input or lent output of a conversion.
 pub const LONGEST: usize = 20;
+/// The longest CAN frame, how many of its bytes a record has, and what stands behind them.
+pub const LONGEST_CAN: usize = 1_024;
+pub const CAN_IN_RECORD: usize = RECORD - 3;
+pub const CAN_BEHIND: u8 = 0x55;
 
 pub type Record = [u8; RECORD];
 
@@ -14,10 +18,10 @@ pub enum Event {
     CanFrame(Vec<u8>),
     UartByte(u8),
     Show(u32),
-    HandIn([u8; NODE]),
-    Lend { flash: u8, eeprom: u8 },
+    HandIn([u8; HANDED]),
+    Lend { flash: u32, eeprom: u32 },
     Poke { address: u32, value: u8 },
-    Begin { flash: u8, eeprom: u8, fixed: [u8; 6], full: u16 },
+    Begin { flash: u8, eeprom: u8, fixed: [u8; 6], full: u16, step: u8, more: u8 },
     End,
     IdentifierToFrame { identifier: u32, data: Vec<u8>, output: usize },
     FrameToIdentifier { frame: Vec<u8>, output: usize },
@@ -43,17 +47,25 @@ impl Event {
         let from = |at: usize, count: u8| b[at..at + length(count)].to_vec();
         Some(match b[0] {
             0x01 => Event::Restart { pin: b[1], self_test: b[2] },
-            0x02 => Event::CanFrame(from(2, b[1])),
+            0x02 => {
+                let length = u16::from_be_bytes([b[1], b[2]]) as usize;
+                let mut bytes = b[3..].to_vec();
+                bytes.resize(LONGEST_CAN, CAN_BEHIND);
+                bytes.truncate(length);
+                Event::CanFrame(bytes)
+            }
             0x03 => Event::UartByte(b[1]),
             0x04 => Event::Show(number(&b[1..])),
             0x05 => Event::HandIn(std::array::from_fn(|i| b[1 + i])),
-            0x06 => Event::Lend { flash: b[1], eeprom: b[2] },
+            0x06 => Event::Lend { flash: number(&b[1..]), eeprom: number(&b[5..]) },
             0x07 => Event::Poke { address: number(&b[1..]), value: b[5] },
             0x08 => Event::Begin {
                 flash: b[1],
                 eeprom: b[2],
                 fixed: std::array::from_fn(|i| b[3 + i]),
                 full: u16::from_be_bytes([b[9], b[10]]),
+                step: b[11],
+                more: b[12],
             },
             0x09 => Event::End,
             0x0A => Event::IdentifierToFrame {
@@ -95,21 +107,25 @@ impl Event {
         match self {
             Event::Restart { pin, self_test } => bytes.extend([pin, self_test]),
             Event::CanFrame(frame) => {
-                bytes.push(frame.len() as u8);
-                bytes.extend(frame);
+                bytes.extend((frame.len() as u16).to_be_bytes());
+                bytes.extend(&frame[..frame.len().min(CAN_IN_RECORD)]);
             }
             Event::UartByte(byte) => bytes.push(*byte),
             Event::Show(address) => bytes.extend(address.to_be_bytes()),
             Event::HandIn(node) => bytes.extend(node),
-            Event::Lend { flash, eeprom } => bytes.extend([flash, eeprom]),
+            Event::Lend { flash, eeprom } => {
+                bytes.extend(flash.to_be_bytes());
+                bytes.extend(eeprom.to_be_bytes());
+            }
             Event::Poke { address, value } => {
                 bytes.extend(address.to_be_bytes());
                 bytes.push(*value);
             }
-            Event::Begin { flash, eeprom, fixed, full } => {
+            Event::Begin { flash, eeprom, fixed, full, step, more } => {
                 bytes.extend([flash, eeprom]);
                 bytes.extend(fixed);
                 bytes.extend(full.to_be_bytes());
+                bytes.extend([step, more]);
             }
             Event::End => {}
             Event::IdentifierToFrame { identifier, data, output } => {

@@ -21,7 +21,7 @@ fn node_words(node: &Node) -> String {
         node.module,
         node.group,
         node.held_count,
-        pairs(&node.held[..HELD.min(node.held_count as usize)]),
+        pairs(&node.held[..node.held.len().min(node.held_count as usize)]),
         node.mode,
     )
 }
@@ -139,7 +139,9 @@ pub fn explain(stream: &[u8], wanted: u64) -> Option<String> {
         lines.extend(answer_words(&event, &bytes[1..]));
         if event.kind() <= 0x03 {
             lines.push(format!("node after: {}", node_words(&session.node)));
-            lines.push(format!("NODE: {}", pairs(&bytes[bytes.len() - NODE..])));
+            let (record, fifteenth) = bytes[bytes.len() - NODE - 1..].split_at(NODE);
+            lines.push(format!("NODE: {}", pairs(record)));
+            lines.push(format!("fifteenth held byte: {}", pairs(fifteenth)));
         }
         lines.push(format!("line: {}", hex(&answer.line)));
         return Some(lines.join("\n"));

@@ -3,6 +3,7 @@
 
 mod apply_recipes;
 mod coverage;
+mod coverage_rows;
 mod digest;
 mod event;
 mod explain;
@@ -20,6 +21,7 @@ mod recipes;
 #[cfg(test)]
 mod samples;
 mod session;
+mod uart_coverage;
 
 use std::io::{self, BufWriter, Read, Write};
 use std::process::ExitCode;

@@ -4,7 +4,9 @@ use crate::frames::{self, Frame, FRAME, START, WRAPPED};
 use crate::memory::*;
 use crate::numbers::*;
 
+/// The most bytes that are held, and the room that a record has for them.
 pub const HELD: usize = 14;
+pub const HELD_ROOM: usize = 15;
 
 #[derive(Clone, Copy, PartialEq, Eq, Debug)]
 pub enum Pin {
@@ -17,6 +19,13 @@ pub enum Pin {
 pub struct Staged {
     pub command: Command,
     pub address: Address,
+}
+
+impl Staged {
+    /// Whether it counts as staged: the address rule allows the command at this very address.
+    pub fn legal(self) -> bool {
+        rule(self.address.raw(), self.command) == Some(self.address)
+    }
 }
 
 #[derive(Clone, Copy, PartialEq, Eq, Debug)]
@@ -34,8 +43,8 @@ pub struct Node {
     pub fixed: [u8; 6],
     pub module: u8,
     pub group: u8,
-    pub held_count: u8,
-    pub held: [u8; HELD],
+    pub held_count: u64,
+    pub held: [u8; HELD_ROOM],
     pub mode: Mode,
 }
 
@@ -91,7 +100,7 @@ impl Node {
             module: 0,
             group: 0,
             held_count: 0,
-            held: [0; HELD],
+            held: [0; HELD_ROOM],
             mode: Mode::Waiting,
         }
     }
@@ -100,11 +109,11 @@ impl Node {
     /// many held bytes and held bytes not starting with 0xAA. What means nothing becomes 0.
     pub fn tidy(&mut self) {
         if let Mode::Programming(Some(staged)) = self.mode {
-            if rule(staged.address.raw(), staged.command) != Some(staged.address) {
+            if !staged.legal() {
                 self.mode = Mode::Programming(None);
             }
         }
-        if self.held_count as usize > HELD || self.held[0] != START {
+        if self.held_count > HELD as u64 || self.held[0] != START {
             self.held_count = 0;
         }
         self.held[self.held_count as usize..].fill(0);
@@ -120,7 +129,7 @@ impl Node {
     /// Drops the held bytes.
     fn empty_held(&mut self) {
         self.held_count = 0;
-        self.held = [0; HELD];
+        self.held = [0; HELD_ROOM];
     }
 
     /// Restarts the node; gives 0 or 1.
@@ -182,7 +191,7 @@ impl Node {
             return refused(INCOMPLETE);
         }
         let mut all = [0; WRAPPED];
-        all[..HELD].copy_from_slice(&self.held);
+        all[..HELD].copy_from_slice(&self.held[..HELD]);
         all[HELD] = byte;
         self.empty_held();
         let mut bytes = [0; FRAME];

@@ -1,9 +1,11 @@
-//! NODE of PROTOCOL.md: a node record as 31 bytes.
+//! NODE of PROTOCOL.md: a node record as 31 bytes, and what a record has beyond them.
 
 use crate::memory::{Address, Command};
-use crate::node::{Mode, Node, Pin, Staged, HELD};
+use crate::node::{Mode, Node, Pin, Staged, HELD, HELD_ROOM};
 
 pub const NODE: usize = 31;
+/// NODE, the count's number above its low byte, and the fifteenth held byte: what is handed in.
+pub const HANDED: usize = NODE + 4 + 1;
 /// Where things lie in the 31 bytes.
 pub const HELD_COUNT_AT: usize = 9;
 pub const HELD_AT: usize = 10;
@@ -11,6 +13,8 @@ pub const MODE_AT: usize = 24;
 pub const STAGED_AT: usize = 25;
 pub const ADDRESS_KIND_AT: usize = 26;
 pub const ADDRESS_AT: usize = 27;
+pub const COUNT_ABOVE_AT: usize = NODE;
+pub const FIFTEENTH_AT: usize = NODE + 4;
 
 /// A tidied node record as bytes.
 pub fn write(node: &Node) -> [u8; NODE] {
@@ -19,8 +23,8 @@ pub fn write(node: &Node) -> [u8; NODE] {
     bytes[1..7].copy_from_slice(&node.fixed);
     bytes[7] = node.module;
     bytes[8] = node.group;
-    bytes[HELD_COUNT_AT] = node.held_count;
-    bytes[HELD_AT..MODE_AT].copy_from_slice(&node.held);
+    bytes[HELD_COUNT_AT] = node.held_count as u8;
+    bytes[HELD_AT..MODE_AT].copy_from_slice(&node.held[..HELD]);
     bytes[MODE_AT] = match node.mode {
         Mode::Normal { started: false } => 0,
         Mode::Normal { started: true } => 1,
@@ -36,24 +40,43 @@ pub fn write(node: &Node) -> [u8; NODE] {
     bytes
 }
 
-/// The node record of any bytes, untidied.
-pub fn read(bytes: &[u8; NODE]) -> Node {
-    let raw = bytes[ADDRESS_AT..].iter().fold(0, |raw, &byte| raw << 8 | byte as u32);
-    let staged = Command::of(bytes[STAGED_AT] as u32).map(|command| Staged {
+/// A tidied node record as an answer ends with it: NODE and the fifteenth held byte.
+pub fn write_whole(node: &Node) -> Vec<u8> {
+    let mut bytes = write(node).to_vec();
+    bytes.push(node.held[HELD]);
+    bytes
+}
+
+/// What is staged by its number, the kind of its address and the address.
+pub fn staged(number: u8, kind: u8, raw: u32) -> Option<Staged> {
+    Command::of(number as u32).map(|command| Staged {
         command,
-        address: if bytes[ADDRESS_KIND_AT] == 0 || command == Command::Erase {
+        address: if kind == 0 || command == Command::Erase {
             Address::Flash(raw)
         } else {
             Address::Eeprom(raw)
         },
-    });
+    })
+}
+
+/// Four bytes as a number, high byte first.
+fn number(bytes: &[u8]) -> u32 {
+    bytes[..4].iter().fold(0, |number, &byte| number << 8 | byte as u32)
+}
+
+/// The node record of any bytes, untidied.
+pub fn read(bytes: &[u8; HANDED]) -> Node {
+    let staged = staged(bytes[STAGED_AT], bytes[ADDRESS_KIND_AT], number(&bytes[ADDRESS_AT..]));
+    let mut held = [0; HELD_ROOM];
+    held[..HELD].copy_from_slice(&bytes[HELD_AT..MODE_AT]);
+    held[HELD] = bytes[FIFTEENTH_AT];
     Node {
         pin: if bytes[0] == 0 { Pin::CanOnly } else { Pin::CanAndUart },
         fixed: std::array::from_fn(|i| bytes[1 + i]),
         module: bytes[7],
         group: bytes[8],
-        held_count: bytes[HELD_COUNT_AT],
-        held: std::array::from_fn::<u8, HELD, _>(|i| bytes[HELD_AT + i]),
+        held_count: (number(&bytes[COUNT_ABOVE_AT..]) as u64) << 8 | bytes[HELD_COUNT_AT] as u64,
+        held,
         mode: match bytes[MODE_AT] {
             0 => Mode::Normal { started: false },
             1 => Mode::Normal { started: true },

@@ -34,6 +34,17 @@ fn address(body: &[u8]) -> u32 {
     u32::from_be_bytes([0, body[0], body[1], body[2]])
 }
 
+/// Whether a body, whole as far as its address, begins with an address that its kind forbids.
+pub fn illegal(kind: u8, body: &[u8]) -> bool {
+    match kind {
+        BLOCK_ITEM if body.len() >= 3 => rule(address(body), Command::Erase).is_none(),
+        ROW_ITEM if body.len() >= 3 => {
+            !matches!(rule(address(body), Command::Write), Some(Address::Eeprom(_)))
+        }
+        _ => false,
+    }
+}
+
 /// Checks a recipe and gives the starting bytes of its items.
 pub fn items(recipe: &[u8]) -> Result<Vec<usize>, Refusal> {
     let mut places = Vec::new();
@@ -54,14 +65,7 @@ pub fn items(recipe: &[u8]) -> Result<Vec<usize>, Refusal> {
         let Some(body) = recipe[place + 1..].get(..length) else {
             return refuse(22);
         };
-        let legal = match kind {
-            BLOCK_ITEM => rule(address(body), Command::Erase).is_some(),
-            ROW_ITEM => {
-                matches!(rule(address(body), Command::Write), Some(Address::Eeprom(_)))
-            }
-            _ => true,
-        };
-        if !legal {
+        if illegal(kind, body) {
             return refuse(24);
         }
         left = kind == LEAVE;

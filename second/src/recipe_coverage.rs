@@ -1,13 +1,16 @@
 //! Counts what the recipes of a stream come to.
 
-use crate::recipe::{body_length, translate, MOST_ITEMS};
+use crate::frames::START;
+use crate::memory::Command;
+use crate::node::{Staged, HELD};
+use crate::recipe::{body_length, illegal, items, translate, LEAVE, MOST_ITEMS, OPEN};
 use crate::recipe_stream::{read, Trial};
 use std::collections::HashMap;
 use std::io::{self, Write};
 
 /// Every row that a stream ought to reach. A first item is never 24 (it must be Open) or 25, and
 /// an item cut short has none behind it.
-const WANTED: [&str; 27] = [
+const WANTED: [&str; 48] = [
     "accepted CAN, own numbers",
     "accepted CAN, other numbers",
     "accepted UART, own numbers",
@@ -18,24 +21,96 @@ const WANTED: [&str; 27] = [
     "accepted, 2048 items",
     "accepted, Row at BOOTFL",
     "accepted, Row at the own numbers before another item",
+    "accepted, memories with a pattern",
+    "accepted CAN, a read staged",
+    "accepted CAN, a write staged",
+    "accepted CAN, an erase staged",
+    "accepted CAN, an illegal command staged",
+    "accepted CAN, bytes held",
+    "accepted CAN, untidy bytes held",
+    "accepted CAN, pin CAN only",
+    "accepted CAN, staged, held, pin CAN only and a pattern",
+    "accepted UART, a read staged",
+    "accepted UART, a write staged",
+    "accepted UART, an erase staged",
+    "accepted UART, bytes held",
+    "accepted UART, untidy bytes held",
+    "accepted UART, pin CAN only",
     "20 empty",
     "20 at the end",
     "20 at the end of 2048 items",
     "21 first",
     "21 middle",
     "21 last",
+    "21 behind Leave",
     "22 first",
     "22 last",
+    "22 before 24",
     "23 first",
     "23 middle",
     "23 last",
+    "23 before 22",
+    "23 before 24",
     "24 middle",
     "24 last",
     "25 middle",
     "25 last",
+    "25 before 21",
+    "25 before 23",
     "26 one byte short",
     "26 no output",
 ];
+
+/// The rows of what an accepted recipe for the own numbers finds in the record and the memories.
+fn begun(trial: &Trial, port: &str) -> Vec<String> {
+    let begin = &trial.begin;
+    if trial.recipe[1..3] != [trial.module, trial.group] {
+        return vec![];
+    }
+    let staged = begin.staged.map(|staged| match staged.command {
+        _ if !staged.legal() => "an illegal command staged",
+        Command::Read => "a read staged",
+        Command::Write => "a write staged",
+        Command::Erase => "an erase staged",
+    });
+    let untidy = begin.held_count as usize > HELD || begin.held[0] != START;
+    let held = match begin.held_count {
+        0 => None,
+        _ if untidy => Some("untidy bytes held"),
+        _ => Some("bytes held"),
+    };
+    let pin = (!begin.can_and_uart).then_some("pin CAN only");
+    let mut rows: Vec<String> =
+        [staged, held, pin].iter().flatten().map(|row| format!("accepted {port}, {row}")).collect();
+    if trial.step != 0 {
+        rows.push("accepted, memories with a pattern".to_string());
+    }
+    if begin.staged.is_some_and(Staged::legal) && held == Some("bytes held") && pin.is_some() {
+        if trial.step != 0 {
+            rows.push(format!("accepted {port}, staged, held, pin CAN only and a pattern"));
+        }
+    }
+    rows
+}
+
+/// The rows of a refusal at an item that is at fault in another way too, and of one behind Leave.
+fn orders(recipe: &[u8], number: u8, place: usize) -> Vec<String> {
+    let kind = recipe[place];
+    let body = &recipe[place + 1..];
+    let unknown = body_length(kind).is_none();
+    let short = body_length(kind).is_some_and(|length| body.len() < length);
+    let behind_leave = items(&recipe[..place]).is_ok();
+    let misplaced = behind_leave || kind == OPEN;
+    let found = [
+        ("21 behind Leave", number == 21 && behind_leave),
+        ("22 before 24", number == 22 && illegal(kind, body)),
+        ("23 before 22", number == 23 && short),
+        ("23 before 24", number == 23 && !short && illegal(kind, body)),
+        ("25 before 21", number == 25 && unknown),
+        ("25 before 23", number == 25 && !unknown && misplaced),
+    ];
+    found.iter().filter(|(_, holds)| *holds).map(|(row, _)| row.to_string()).collect()
+}
 
 /// The rows of an accepted recipe.
 fn accepted(trial: &Trial, count: usize) -> Vec<String> {
@@ -49,7 +124,8 @@ fn accepted(trial: &Trial, count: usize) -> Vec<String> {
     if count == 36_829 {
         rows.push("accepted, 36829 frames".to_string());
     }
-    let places = crate::recipe::items(recipe).expect("accepted");
+    rows.extend(begun(trial, port));
+    let places = items(recipe).expect("accepted");
     if places.len() == MOST_ITEMS {
         rows.push("accepted, 2048 items".to_string());
     }
@@ -69,9 +145,9 @@ fn refused(trial: &Trial, number: u8, place: usize) -> Vec<String> {
     match number {
         20 if recipe.is_empty() => vec!["20 empty".to_string()],
         20 => {
-            let closed = [&recipe[..], &[0x0F]].concat();
+            let closed = [&recipe[..], &[LEAVE]].concat();
             let mut rows = vec!["20 at the end".to_string()];
-            if crate::recipe::items(&closed).map_err(|refusal| refusal.number) == Err(25) {
+            if items(&closed).map_err(|refusal| refusal.number) == Err(25) {
                 rows.push("20 at the end of 2048 items".to_string());
             }
             rows
@@ -95,7 +171,9 @@ fn refused(trial: &Trial, number: u8, place: usize) -> Vec<String> {
                 _ if behind >= recipe.len() => "last",
                 _ => "middle",
             };
-            vec![format!("{number} {position}")]
+            let mut rows = vec![format!("{number} {position}")];
+            rows.extend(orders(recipe, number, place));
+            rows
         }
     }
 }

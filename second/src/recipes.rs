@@ -1,13 +1,15 @@
 //! Makes recipe streams: legal recipes, and recipes damaged in every way.
 
-use crate::memory::{BLOCK, EEPROM_BASE, ROW};
+use crate::frames;
+use crate::memory::{Address, Command, BLOCK, EEPROM_BASE, ROW};
+use crate::node::{Staged, HELD};
 use crate::random::Random;
 use crate::recipe::*;
-use crate::recipe_stream::Trial;
+use crate::recipe_stream::{Begin, Trial};
 use std::io::{self, Write};
 
 /// How many recipes at the head of a stream are special.
-const SPECIAL: usize = 5;
+const SPECIAL: usize = 6;
 /// Frame bytes of the largest recipe.
 const MOST_OUTPUT: usize = 36_829 * 12;
 const BAD_BLOCKS: [u32; 9] =
@@ -142,6 +144,30 @@ fn illegal_address(random: &mut Random, items: &mut Vec<Vec<u8>>) {
     }
 }
 
+/// Cuts an item short that is out of place, too: a second Open, something before Open or behind
+/// Leave. 23.
+fn out_of_place_and_short(random: &mut Random, items: &mut Vec<Vec<u8>>) {
+    let item = legal_item(random, 0x001000);
+    match random.below(3) {
+        0 => {
+            items.pop();
+            items.push(vec![OPEN]);
+        }
+        1 => *items = vec![item],
+        _ => items.push(item),
+    }
+    let last = items.last_mut().expect("an item");
+    last.truncate(1 + random.below(last.len().min(9)));
+}
+
+/// Ends with an item that is cut short behind its illegal address: 22.
+fn illegal_and_short(random: &mut Random, items: &mut Vec<Vec<u8>>) {
+    items.pop();
+    let mut item = illegal_item(random);
+    item.truncate(4 + random.below(item.len() - 4));
+    items.push(item);
+}
+
 /// Takes Leave away: 20; now and then everything.
 fn without_leave(random: &mut Random, items: &mut Vec<Vec<u8>>) {
     items.pop();
@@ -185,20 +211,18 @@ fn largest(random: &mut Random, numbers: [u8; 2]) -> Vec<Vec<u8>> {
     items
 }
 
-/// The items of the first five recipes, those at the limits.
+/// The items of the first six recipes, those at the limits.
 fn special_items(random: &mut Random, index: usize, numbers: [u8; 2]) -> Vec<Vec<u8>> {
     match index {
         0 => largest(random, numbers),
-        // 2,049 items: the last is the only Leave, or something behind Leave.
-        1 if random.chance(50) => many_rows(random, numbers, 2_047),
-        1 => {
-            let mut items = many_rows(random, numbers, 2_046);
-            items.push(random.pick(&[&[OPEN, 0x00, 0x00][..], &[LEAVE]]).to_vec());
-            items
-        }
-        // More than 2,049 items: behind Leave an unknown kind, then more.
+        // 2,049 items: the last is the only Leave.
+        1 => many_rows(random, numbers, 2_047),
+        // More than 2,049 items: the last an unknown kind, behind Leave or not, then more.
         2 => {
             let mut items = many_rows(random, numbers, 2_046);
+            if random.chance(50) {
+                items[2_047] = row(random, 0xF00010);
+            }
             items.push(vec![unknown_kind(random), LEAVE, LEAVE]);
             items
         }
@@ -208,7 +232,13 @@ fn special_items(random: &mut Random, index: usize, numbers: [u8; 2]) -> Vec<Vec
             items.pop();
             items
         }
-        _ => many_rows(random, numbers, 2_046),
+        4 => many_rows(random, numbers, 2_046),
+        // 2,049 items: something known behind Leave.
+        _ => {
+            let mut items = many_rows(random, numbers, 2_046);
+            items.push(random.pick(&[&[OPEN, 0x00, 0x00][..], &[LEAVE]]).to_vec());
+            items
+        }
     }
 }
 
@@ -224,7 +254,7 @@ fn items_of(random: &mut Random, index: usize, numbers: [u8; 2]) -> Vec<Vec<u8>>
         _ => 60 + random.below(60),
     };
     let mut items = legal_items(random, numbers, count);
-    match index % 12 {
+    match index % 15 {
         0..=4 => {}
         5 => with_unknown_kind(random, &mut items),
         6 => out_of_place(random, &mut items),
@@ -239,6 +269,9 @@ fn items_of(random: &mut Random, index: usize, numbers: [u8; 2]) -> Vec<Vec<u8>>
                 out_of_place(random, &mut items);
             }
         }
+        11 => out_of_place_and_short(random, &mut items),
+        12 => illegal_and_short(random, &mut items),
+        13 => items.push(vec![unknown_kind(random), LEAVE]),
         _ => return vec![scrambled(random, items.concat())],
     }
     items
@@ -259,6 +292,44 @@ fn output_length(random: &mut Random, needed: usize) -> usize {
     length.min(MOST_OUTPUT)
 }
 
+/// Something staged before the delivery: a legal command, one that counts as none, or nothing.
+/// With `full` it is a legal one.
+fn staged(random: &mut Random, full: bool) -> Option<Staged> {
+    let command = random.pick(&[Command::Read, Command::Write, Command::Erase]);
+    let flash = Address::Flash(0x001000 + 64 * random.below(960) as u32);
+    let eeprom = Address::Eeprom(EEPROM_BASE + 8 * random.below(128) as u32);
+    let (low, bare) = (random.pick(&BAD_BLOCKS), random.next());
+    match random.below(9) {
+        _ if full => Some(Staged { command, address: flash }),
+        0..=1 => None,
+        2..=5 => Some(Staged { command, address: flash }),
+        6 if command == Command::Erase => Some(Staged { command, address: Address::Flash(low) }),
+        6 => Some(Staged { command, address: eeprom }),
+        _ => Some(Staged { command, address: Address::Flash(random.pick(&[low, bare])) }),
+    }
+}
+
+/// What the record has when a delivery begins: mostly what a restart leaves, else something
+/// staged, bytes held, or pin CAN only; with `full` all of these.
+fn begin(random: &mut Random, numbers: [u8; 2], full: bool) -> Begin {
+    let frame = frames::frame(0x040, 0, numbers[0], numbers[1], random.bytes());
+    let mut held = [0; HELD];
+    let held_count = match random.below(10) {
+        _ if full => 1 + random.below(HELD) as u8,
+        0..=3 => 0,
+        4..=7 => 1 + random.below(HELD) as u8,
+        _ => random.pick(&[15, 255, 3]),
+    };
+    if held_count > 0 {
+        held.copy_from_slice(&frames::wrapped(&frame)[..HELD]);
+        if !full && random.chance(20) {
+            held[0] = 0x55;
+        }
+    }
+    let can_and_uart = !full && random.chance(75);
+    Begin { can_and_uart, staged: staged(random, full), held_count, held }
+}
+
 /// Writes a stream of so many recipes.
 pub fn recipes(seed: u64, count: usize, out: &mut impl Write) -> io::Result<()> {
     let mut random = Random::new(seed ^ 0x5EC0_4D);
@@ -274,12 +345,17 @@ pub fn recipes(seed: u64, count: usize, out: &mut impl Write) -> io::Result<()> 
             _ => numbers,
         };
         let long = index == 0 || index == 4;
+        let full = index >= SPECIAL && index % 15 == 0;
+        let pattern = full || random.chance(60);
         let trial = Trial {
-            uart: !long && random.chance(50),
+            uart: !long && !full && random.chance(50),
             flash: random.byte(),
             eeprom: random.byte(),
             module,
             group,
+            step: if pattern { 1 | random.any() } else { 0 },
+            more: if pattern { random.any() } else { 0 },
+            begin: begin(&mut random, [module, group], full),
             output: if long { needed } else { output_length(&mut random, needed) },
             recipe,
         };

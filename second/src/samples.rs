@@ -1,18 +1,21 @@
 //! Document 01's samples, and some rules that are easily got wrong.
 
-use crate::event::{Event, LONGEST, RECORD};
+use crate::event::{Event, CAN_BEHIND, CAN_IN_RECORD, LONGEST_CAN, RECORD};
 use crate::frames;
 use crate::memory::*;
 use crate::node::*;
 use crate::node_record;
 use crate::numbers::*;
 use crate::recipe::*;
-use crate::session::Session;
+use crate::recipe_stream::{read, Begin, Trial};
+use crate::session::{fill, Session};
+use crate::uart_coverage::{Run, RUN_ROWS};
 
 /// A session with blank memories, own numbers 05 0A, BOOTFL as given, restarted.
 fn session(bootfl: u8, pin: u8) -> Session {
     let mut session = Session::new();
-    session.apply(&Event::Begin { flash: 0xFF, eeprom: 0xFF, fixed: [1, 2, 3, 4, 5, 6], full: 0 });
+    let fixed = [1, 2, 3, 4, 5, 6];
+    session.apply(&Event::Begin { flash: 0xFF, eeprom: 0xFF, fixed, full: 0, step: 0, more: 0 });
     session.eeprom[BOOTFL] = bootfl;
     session.eeprom[MODULE] = 0x05;
     session.eeprom[GROUP] = 0x0A;
@@ -190,7 +193,7 @@ fn staged_commands() {
     assert_eq!(can(&mut session, "03 00 05 0A 00 FF C0 00 00 03 00 00").0, DONE);
     assert_eq!(can(&mut session, data).1, bytes("04 01 05 0A FF FF FF FF FF FF FF FF"));
     assert_eq!(session.flash[0xFFBF..0xFFC1], [0x5A, 0xFF]);
-    assert_eq!(session.flash[0xFFFF..], [0xFF, 0x5A]);
+    assert_eq!(session.flash[0xFFFF..0x10001], [0xFF, 0x5A]);
     assert_eq!(can(&mut session, "03 00 05 0B 00 FF F8 00 00 03 00 00").0, NOT_FOR_NODE);
     assert_eq!(can(&mut session, data).0, DONE);
     assert_eq!(can(&mut session, "03 00 05 0A 00 FF F8 00 00 03 00 00").0, ILLEGAL);
@@ -213,7 +216,8 @@ fn own_numbers_and_bootfl() {
 #[test]
 fn untidy_records() {
     let mut session = session(0xFF, 1);
-    let tidy = node_record::write(&session.node);
+    let mut tidy = [0; node_record::HANDED];
+    tidy[..node_record::NODE].copy_from_slice(&node_record::write(&session.node));
     for (staged, kind, address, number) in [
         (3, 0, 0x00_FFF8_u32, NOTHING_STAGED),
         (3, 1, 0x00_2000, DONE),
@@ -226,20 +230,151 @@ fn untidy_records() {
         let mut record = tidy;
         record[node_record::STAGED_AT] = staged;
         record[node_record::ADDRESS_KIND_AT] = kind;
-        record[node_record::ADDRESS_AT..].copy_from_slice(&address.to_be_bytes());
+        record[node_record::ADDRESS_AT..node_record::NODE].copy_from_slice(&address.to_be_bytes());
         session.apply(&Event::HandIn(record));
         assert_eq!(can(&mut session, "04 00 05 0A 00 00 00 00 00 00 00 00").0, number);
     }
-    for (count, first, held) in [(15, 0xAA, 0), (14, 0xAA, 14), (3, 0xAB, 0), (0, 0xAA, 0)] {
+    for (above, count, first, held) in [
+        (0, 15, 0xAA, 0),
+        (0, 14, 0xAA, 14),
+        (0, 3, 0xAB, 0),
+        (0, 0, 0xAA, 0),
+        (1, 3, 0xAA, 0),
+        (0x0100_0000_u32, 14, 0xAA, 0),
+    ] {
         let mut record = tidy;
         record[node_record::HELD_COUNT_AT] = count;
         record[node_record::HELD_AT..node_record::MODE_AT].fill(first);
+        record[node_record::COUNT_ABOVE_AT..node_record::FIFTEENTH_AT]
+            .copy_from_slice(&above.to_be_bytes());
+        record[node_record::FIFTEENTH_AT] = 0x77;
         session.apply(&Event::HandIn(record));
-        session.apply(&Event::Lend { flash: 2, eeprom: 2 });
+        session.apply(&Event::Lend { flash: 65_537, eeprom: 1_025 });
         assert_eq!(can(&mut session, "").0, MEMORY_LENGTH);
-        session.apply(&Event::Lend { flash: 0, eeprom: 0 });
+        session.apply(&Event::Lend { flash: 65_536, eeprom: 1_024 });
         assert_eq!(session.node.held_count, held);
         assert!(session.node.held[held as usize..].iter().all(|&byte| byte == 0));
+    }
+}
+
+/// Lengths that are wrong by one, by much, or exchanged: 1 at every call, and nothing is looked at.
+#[test]
+fn wrong_lengths() {
+    let mut session = session(0x00, 1);
+    for (flash, eeprom) in [
+        (65_535, 1_025),
+        (65_537, 1_023),
+        (0, 1_024),
+        (65_536, 0),
+        (1_024, 65_536),
+        (131_072, 1_024),
+        (u32::MAX, 1_024),
+    ] {
+        session.apply(&Event::Lend { flash, eeprom });
+        assert_eq!(can(&mut session, PROGRAM).0, MEMORY_LENGTH);
+        assert_eq!(uart(&mut session, "AA").0, [MEMORY_LENGTH]);
+        let restart = Event::Restart { pin: 0, self_test: 1 };
+        assert_eq!(session.apply(&restart).unwrap().number, MEMORY_LENGTH);
+        assert_eq!(session.apply(&Event::Show(0x00_1000)).unwrap().line, [4, 1, 0]);
+    }
+    session.apply(&Event::Lend { flash: 65_536, eeprom: 1_024 });
+    assert_eq!(can(&mut session, PROGRAM).0, DONE);
+}
+
+/// A frame with bytes behind it, 256 of them too, and a wrapped frame: on CAN all are 4.
+#[test]
+fn can_lengths() {
+    let mut session = session(0x00, 1);
+    for length in [13, 21, CAN_IN_RECORD, 256 + 12, LONGEST_CAN] {
+        let mut frame = bytes(PROGRAM);
+        frame.resize(length, CAN_BEHIND);
+        assert_eq!(session.apply(&Event::CanFrame(frame)).unwrap().number, MALFORMED);
+    }
+    assert_eq!(can(&mut session, WRAPPED_PROGRAM).0, MALFORMED);
+    assert_eq!(can(&mut session, PROGRAM).0, DONE);
+}
+
+/// 0xAA inside noise, a byte too many, a byte too few, and a restart inside a frame: each spoils
+/// one frame, and the next is heard.
+#[test]
+fn spoiled_frames() {
+    let last = |numbers: Vec<u8>| numbers.last().copied();
+    let frame = "AA 10 40 01 01 00 00 05 0A 00 00 00 00 61 A5";
+    let mut session = session(0x00, 1);
+    let noise = format!("2A AA 01 02 {frame}");
+    assert_eq!(last(uart(&mut session, &noise).0), Some(INCOMPLETE));
+    assert_eq!(session.node.held_count, 0);
+    assert_eq!(last(uart(&mut session, frame).0), Some(DONE));
+    let inserted = "AA 10 40 01 01 00 00 77 05 0A 00 00 00 00 61 A5";
+    assert_eq!(uart(&mut session, inserted).0[14..], [BAD_WRAPPING, INCOMPLETE]);
+    assert_eq!(last(uart(&mut session, frame).0), Some(DONE));
+    let lost = "AA 10 40 01 01 00 05 0A 00 00 00 00 61 A5";
+    assert_eq!(last(uart(&mut session, lost).0), Some(INCOMPLETE));
+    assert_eq!(uart(&mut session, frame).0[0], BAD_WRAPPING);
+    assert_eq!(last(uart(&mut session, frame).0), Some(DONE));
+    uart(&mut session, &frame[..3 * 7]);
+    session.apply(&Event::Restart { pin: 1, self_test: 0 });
+    assert_eq!(uart(&mut session, &frame[3 * 7..]).0, [INCOMPLETE; 8]);
+    assert_eq!(session.node.held_count, 0);
+    assert_eq!(last(uart(&mut session, frame).0), Some(DONE));
+}
+
+/// The rows that these UART bytes reach in a session, with a restart behind the first so many.
+fn run_rows(all: &str, before_restart: usize) -> Vec<&'static str> {
+    let mut session = session(0x00, 1);
+    let mut run = Run::new();
+    let mut rows = Vec::new();
+    let mut events: Vec<Event> = bytes(all).into_iter().map(Event::UartByte).collect();
+    if before_restart > 0 {
+        events.insert(before_restart, Event::Restart { pin: 1, self_test: 0 });
+    }
+    for event in events {
+        let before = session.node.clone();
+        let number = session.apply(&event).unwrap().number;
+        rows.extend(run.take(&before, &event, number));
+    }
+    rows
+}
+
+/// What is told of odd runs of UART bytes, and that nothing is told of a whole frame.
+#[test]
+fn runs_of_uart_bytes() {
+    let frame = "AA 10 40 01 01 00 00 05 0A 00 00 00 00 61 A5";
+    assert_eq!(run_rows(frame, 0), [""; 0]);
+    assert_eq!(run_rows(&format!("2A 2B {frame}"), 0), [""; 0]);
+    assert_eq!(run_rows(&format!("2A AA 01 {frame}"), 0), [RUN_ROWS[0]]);
+    assert_eq!(run_rows("AA 10 40 01 01 77 00 00 05 0A 00 00 00 00 61 A5", 0), [RUN_ROWS[1]]);
+    let lost = "AA 10 40 01 01 00 00 0A 00 00 00 00 61 A5";
+    assert_eq!(run_rows(&format!("{lost} {frame}"), 0), [RUN_ROWS[2]]);
+    assert_eq!(run_rows(frame, 7), [RUN_ROWS[3]]);
+}
+
+/// Sums that are multiples of 65,536, and a stored one that differs in its high byte alone.
+#[test]
+fn round_sums() {
+    let mut session = session(0x00, 0);
+    session.flash[SUM_FIRST..=SUM_LAST].fill(0x00);
+    session.flash[SUM_FIRST..][..256].fill(0xFF);
+    session.flash[SUM_FIRST + 256..][..2].fill(0x80);
+    assert_eq!(firmware_sum(&session.flash), 65_536);
+    for (stored, started) in [([1, 0, 0], true), ([0, 0, 0], false), ([2, 0, 0], false)] {
+        session.flash[STORED_SUM..][..3].copy_from_slice(&stored);
+        session.apply(&Event::Restart { pin: 0, self_test: 0 });
+        assert_eq!(session.node.mode, Mode::Normal { started });
+    }
+    let (number, reply) = can(&mut session, "10 60 01 01 00 00 05 0A 00 00 00 00");
+    assert_eq!((number, &reply[4..8]), (DONE, &[0x01, 0x01, 0x00, 0x00][..]));
+}
+
+/// The pattern of a session's first cells.
+#[test]
+fn mixed_memories() {
+    let mut cells = [0; 1_024];
+    fill(&mut cells, 0xFE, 3, 7);
+    assert_eq!(cells[..4], [0xFE, 0x01, 0x04, 0x07]);
+    for index in [255, 256, 511, 512, 1_023] {
+        let more = if index % 256 == 0 { 7 } else { 0 };
+        assert_eq!(cells[index], cells[index - 1].wrapping_add(3).wrapping_add(more));
     }
 }
 
@@ -259,6 +394,9 @@ fn recipe_refusals() {
     assert_eq!(refused("01 00 00 0F 0F"), (23, 4));
     assert_eq!(refused("01 00 00 0F 00"), (21, 4));
     assert_eq!(refused("01 00 00 02 FF"), (22, 3));
+    assert_eq!(refused("01 00 00 02 00 00 00 11"), (22, 3));
+    assert_eq!(refused("01 00 00 0F 03 F0"), (23, 4));
+    assert_eq!(refused("03 F0"), (23, 0));
     assert_eq!(refused("01 00 00 03 00 10 00 00 00 00 00 00 00 00 00"), (24, 3));
     assert_eq!(refused("01 00 00 03 F0 04 00 00 00 00 00 00 00 00 00 99"), (24, 3));
 }
@@ -282,13 +420,21 @@ fn records_read_back() {
     let frame = |length: usize| vec![0x5A; length];
     for event in [
         Event::Restart { pin: 2, self_test: 3 },
-        Event::CanFrame(frame(LONGEST)),
+        Event::CanFrame(frame(CAN_IN_RECORD)),
+        Event::CanFrame([frame(CAN_IN_RECORD), vec![CAN_BEHIND; 207]].concat()),
         Event::UartByte(0xAA),
         Event::Show(0x0100_1000),
         Event::HandIn(std::array::from_fn(|i| i as u8)),
-        Event::Lend { flash: 1, eeprom: 2 },
+        Event::Lend { flash: 0x0102_0304, eeprom: 0xFFFF_FFFE },
         Event::Poke { address: 0xF0_0026, value: 9 },
-        Event::Begin { flash: 1, eeprom: 2, fixed: [3, 4, 5, 6, 7, 8], full: 0x1234 },
+        Event::Begin {
+            flash: 1,
+            eeprom: 2,
+            fixed: [3, 4, 5, 6, 7, 8],
+            full: 0x1234,
+            step: 9,
+            more: 10,
+        },
         Event::End,
         Event::IdentifierToFrame { identifier: 0x0200_F0F0, data: frame(8), output: 12 },
         Event::FrameToIdentifier { frame: frame(12), output: 8 },
@@ -299,4 +445,32 @@ fn records_read_back() {
         assert_eq!(Event::read(&event.write()), Some(event));
     }
     assert_eq!(Event::read(&[0xFF; RECORD]), None);
+}
+
+/// A recipe's header is read back, with what the record begins with.
+#[test]
+fn headers_read_back() {
+    let address = Address::Eeprom(0xF0_0020);
+    let begin = Begin {
+        can_and_uart: false,
+        staged: Some(Staged { command: Command::Write, address }),
+        held_count: 255,
+        held: std::array::from_fn(|i| 0xAA + i as u8),
+    };
+    let trial = Trial {
+        uart: true,
+        flash: 1,
+        eeprom: 2,
+        module: 3,
+        group: 4,
+        step: 5,
+        more: 6,
+        begin,
+        output: 70_000,
+        recipe: vec![7; 65],
+    };
+    let mut stream = Vec::new();
+    trial.write(&mut stream).unwrap();
+    assert_eq!(stream.len(), 3 * RECORD);
+    assert_eq!(read(&stream), [trial]);
 }

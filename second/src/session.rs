@@ -8,6 +8,9 @@ use crate::node::{Node, Outcome, Pin};
 use crate::node_record;
 use std::io::{self, Write};
 
+/// How many cells a session has of each memory: more than the node's, so that too many can be lent.
+pub const SESSION_FLASH: usize = 131_136;
+pub const SESSION_EEPROM: usize = 65_600;
 /// What a lent output of a conversion is filled with.
 const OUTPUT_FILL: u8 = 0xEE;
 
@@ -39,16 +42,16 @@ fn with_replies(outcome: &Outcome, width: usize, node: &Node) -> Vec<u8> {
     let mut bytes = vec![outcome.number, outcome.replies.len() as u8];
     bytes.extend(outcome.replies.iter().flatten());
     bytes.resize(2 + 2 * width, 0);
-    bytes.extend(node_record::write(node));
+    bytes.extend(node_record::write_whole(node));
     bytes
 }
 
-/// How many cells are lent of a memory.
-fn lent_cells(choice: u8, full: usize) -> usize {
-    match choice {
-        0 => full,
-        1 => full - 1,
-        _ => full + 1,
+/// Fills cells: the first becomes the fill, each other the one before it plus `step`, plus `more`
+/// too at each 256th.
+pub fn fill(cells: &mut [u8], first: u8, step: u8, more: u8) {
+    for (index, cell) in cells.iter_mut().enumerate() {
+        let rise = index * step as usize + index / 256 * more as usize;
+        *cell = first.wrapping_add(rise as u8);
     }
 }
 
@@ -63,8 +66,8 @@ impl Session {
     /// The state before any session has begun.
     pub fn new() -> Session {
         Session {
-            flash: vec![0; FLASH_CELLS + 1],
-            eeprom: vec![0; EEPROM_CELLS + 1],
+            flash: vec![0; SESSION_FLASH],
+            eeprom: vec![0; SESSION_EEPROM],
             lent_flash: FLASH_CELLS,
             lent_eeprom: EEPROM_CELLS,
             node: Node::fresh([0; 6]),
@@ -105,7 +108,7 @@ impl Session {
             Event::Restart { pin, self_test } => {
                 let pin = if *pin == 0 { Pin::CanOnly } else { Pin::CanAndUart };
                 let mut bytes = vec![self.node.restart(&lent, pin, *self_test == 0)];
-                bytes.extend(node_record::write(&self.node));
+                bytes.extend(node_record::write_whole(&self.node));
                 bytes
             }
             Event::CanFrame(frame) => {
@@ -157,19 +160,19 @@ impl Session {
         match event {
             Event::HandIn(bytes) => self.node = node_record::read(bytes),
             Event::Lend { flash, eeprom } => {
-                self.lent_flash = lent_cells(*flash, FLASH_CELLS);
-                self.lent_eeprom = lent_cells(*eeprom, EEPROM_CELLS);
+                self.lent_flash = SESSION_FLASH.min(*flash as usize);
+                self.lent_eeprom = SESSION_EEPROM.min(*eeprom as usize);
             }
             Event::Poke { address, value } => {
                 if let Some(cell) = self.cell(*address) {
                     *cell = *value;
                 }
             }
-            Event::Begin { flash, eeprom, fixed, full } => {
+            Event::Begin { flash, eeprom, fixed, full, step, more } => {
                 let number = self.number + 1;
                 *self = Session { number, full: *full, ..Session::new() };
-                self.flash.fill(*flash);
-                self.eeprom.fill(*eeprom);
+                fill(&mut self.flash, *flash, *step, *more);
+                fill(&mut self.eeprom, *eeprom, *step, *more);
                 self.node = Node::fresh(*fixed);
             }
             _ => {}

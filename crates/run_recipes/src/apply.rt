@@ -4,7 +4,7 @@ use crate::hand::Handed;
 use crate::header::Header;
 use crate::line::Line;
 use crate::slices;
-use node_rules::Pin;
+use crate::start;
 use recipe::Translated;
 
 // The line of a refusal.
@@ -22,17 +22,20 @@ fn refused(number: u8, place: usize, output: &[u8]) -> Line {
 
 // The memories before the frames: filled, with BOOTFL 0xFF and the own numbers.
 fn prepare(h: Header, flash: &mut [u8], eeprom: &mut [u8]) {
-    slices::fill(flash, h.flash);
-    slices::fill(eeprom, h.eeprom);
+    slices::fill(flash, h.flash, h.step, h.more);
+    slices::fill(eeprom, h.eeprom, h.step, h.more);
     slices::put(eeprom, 0, 0xFF);
     slices::put(eeprom, 0x26, h.own);
     slices::put(eeprom, 0x27, h.group);
 }
 
-// A fresh node with fixed bytes 0, restarted with pin CAN and UART and a passing self-test.
-fn started(flash: &[u8], eeprom: &[u8]) -> Handed {
-    let r = node::restart(node::fresh([0; 6]), Pin::CanAndUart, true, flash, eeprom);
-    let node = r.node;
+// The node that the frames are handed to: a fresh one with fixed bytes 0, restarted with a passing self-test, in whose record then stands
+// what the header says.
+fn started(h: Header, flash: &[u8], eeprom: &[u8]) -> Handed {
+    let begin = h.begin;
+    let pin = start::pin(begin.pin);
+    let r = node::restart(node::fresh([0; 6]), pin, true, flash, eeprom);
+    let node = start::begun(begin, r.node);
     Handed { node, answers: 0 }
 }
 
@@ -53,8 +56,8 @@ fn done(count: usize, output: &[u8], h: Handed, flash: &[u8], eeprom: &[u8]) -> 
 
 // The frames of an output, handed to a node over prepared memories.
 fn hand_over(h: Header, count: usize, output: &[u8], flash: &mut [u8], eeprom: &mut [u8]) -> Line {
-    let start = started(flash, eeprom);
-    let last = hand::frames(start, h.port, output, count, flash, eeprom);
+    let first = started(h, flash, eeprom);
+    let last = hand::frames(first, h.port, output, count, flash, eeprom);
     done(count, output, last, flash, eeprom)
 }
 
@@ -71,7 +74,7 @@ pub fn recipe(
     flash: &mut [u8],
     eeprom: &mut [u8],
 ) -> Line {
-    slices::fill(output, 0xEE);
+    slices::fill(output, 0xEE, 0, 0);
     let t = recipe_translate::translate(input, output);
     match t {
         Translated::Frames(count) => apply(h, count, output, flash, eeprom),

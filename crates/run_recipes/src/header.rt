@@ -1,15 +1,21 @@
 // The header record of a recipe.
+use crate::start;
+use crate::start::Begin;
 use base::byte_at;
 
-// A header: the port (0 CAN, else UART), the fills, the own numbers, the recipe's length and that of the lent output.
+// A header: the port (0 CAN, else UART), the fills and their steps, the own numbers, the recipe's length and that of the lent output,
+// and the record that the delivery begins with.
 pub struct Header {
     pub port: u8,
     pub flash: u8,
     pub eeprom: u8,
+    pub step: u8,
+    pub more: u8,
     pub own: u8,
     pub group: u8,
     pub length: usize,
     pub room: usize,
+    pub begin: Begin,
 }
 
 // The four bytes from i on as a number, high byte first.
@@ -29,9 +35,12 @@ pub fn read(s: &[u8]) -> Header {
         port: byte_at(s, 1),
         flash: byte_at(s, 2),
         eeprom: byte_at(s, 3),
+        step: byte_at(s, 14),
+        more: byte_at(s, 15),
         own: byte_at(s, 4),
         group: byte_at(s, 5),
         length: number(s, 6),
         room: number(s, 10),
+        begin: start::read(s),
     }
 }

@@ -5,6 +5,7 @@ mod hand;
 mod header;
 mod line;
 mod slices;
+mod start;
 
 use header::Header;
 

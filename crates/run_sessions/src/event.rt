@@ -1,5 +1,4 @@
 // One event: the record is taken apart, the call is made, and its answer written down.
-ghost use Prim.Native.Nat.{_<_};
 use crate::closing;
 use crate::handed;
 use crate::session;
@@ -33,9 +32,25 @@ fn restarted(r: Restarted, s: Session) -> Session {
     telling::write_node(next, &[0x01, r.number], &[], node)
 }
 
-// A CAN frame.
+// A CAN frame, of any length up to 1,024 bytes: the record's, then 0x55.
 fn can(s: Session, rec: &[u8], flash: &mut [u8], eeprom: &mut [u8]) -> Session {
-    let frame = slices::part(rec, 2, handed::length(rec, 1));
+    let mut space = [0x55u8; 1024];
+    can_in(s, rec, &mut space, flash, eeprom)
+}
+
+fn can_in(
+    s: Session,
+    rec: &[u8],
+    space: &mut [u8],
+    flash: &mut [u8],
+    eeprom: &mut [u8],
+) -> Session {
+    slices::append(space, 0, slices::part(rec, 3, 61));
+    let frame = slices::part(space, 0, handed::short(rec, 1) as usize);
+    can_frame(s, frame, flash, eeprom)
+}
+
+fn can_frame(s: Session, frame: &[u8], flash: &mut [u8], eeprom: &mut [u8]) -> Session {
     let node = s.node;
     let f = slices::lent(flash, s.flash);
     let e = slices::lent(eeprom, s.eeprom);
@@ -77,24 +92,14 @@ fn show_lent<'a>(s: Session, at: u32, flash: &'a [u8], eeprom: &'a [u8]) -> Sess
     let number = memory_row::show_number(flash, eeprom, at);
     let row = memory_row::show_row(flash, eeprom, at);
     let length = (row.len() % 256) as u8;
-    telling::write(s, &[0x04, number, length], row, &[])
+    telling::write(s, &[0x04, number, length], row)
 }
 
-// How many cells are lent, above one fewer than the memory has.
-fn above_fewer(b: u8) -> usize
-    ensures { λ r. ⌜ r < 3 ⌝ }
-{
-    match b {
-        0 => 1,
-        1 => 0,
-        _ => 2,
-    }
-}
-
+// From this event on so many cells of each memory are lent, or as many as there are.
 fn lend(s: Session, rec: &[u8]) -> Session {
-    let f = 65535 + above_fewer(byte_at(rec, 1));
-    let e = 1023 + above_fewer(byte_at(rec, 2));
-    session::lending(s, f, e)
+    let flash = handed::number(rec, 1) as usize;
+    let eeprom = handed::number(rec, 5) as usize;
+    session::lending(s, flash, eeprom)
 }
 
 // A cell of FLASH, or of EEPROM from 0xF00000 on, becomes a value.
@@ -110,8 +115,8 @@ fn poke(s: Session, rec: &[u8], flash: &mut [u8], eeprom: &mut [u8]) -> Session 
 
 // A new session.
 fn begin(s: Session, rec: &[u8], flash: &mut [u8], eeprom: &mut [u8]) -> Session {
-    slices::fill(flash, byte_at(rec, 1));
-    slices::fill(eeprom, byte_at(rec, 2));
+    slices::fill(flash, byte_at(rec, 1), byte_at(rec, 11), byte_at(rec, 12));
+    slices::fill(eeprom, byte_at(rec, 2), byte_at(rec, 11), byte_at(rec, 12));
     session::begun(s, handed::six(rec, 3), handed::short(rec, 9))
 }
 
@@ -125,7 +130,7 @@ fn to_hapcan(s: Session, rec: &[u8], output: &mut [u8]) -> Session {
     let input = slices::part(rec, 7, handed::length(rec, 5));
     let out = slices::lent(output, handed::length(rec, 6));
     let number = frame_can::to_hapcan(handed::number(rec, 1), input, out);
-    telling::write(s, &[0x0A, number], out, &[])
+    telling::write(s, &[0x0A, number], out)
 }
 
 // The answer's bytes before the output: kind, number, and the identifier's four.
@@ -146,21 +151,21 @@ fn to_can(s: Session, rec: &[u8], output: &mut [u8]) -> Session {
     let out = slices::lent(output, handed::length(rec, 2));
     let r = frame_can::to_can(input, out);
     let head = identified(r.number, r.identifier);
-    telling::write(s, &head, out, &[])
+    telling::write(s, &head, out)
 }
 
 fn wrap(s: Session, rec: &[u8], output: &mut [u8]) -> Session {
     let input = slices::part(rec, 3, handed::length(rec, 1));
     let out = slices::lent(output, handed::length(rec, 2));
     let number = frame_uart::wrap(input, out);
-    telling::write(s, &[0x0C, number], out, &[])
+    telling::write(s, &[0x0C, number], out)
 }
 
 fn unwrap(s: Session, rec: &[u8], output: &mut [u8]) -> Session {
     let input = slices::part(rec, 3, handed::length(rec, 1));
     let out = slices::lent(output, handed::length(rec, 2));
     let number = frame_uart::unwrap(input, out);
-    telling::write(s, &[0x0D, number], out, &[])
+    telling::write(s, &[0x0D, number], out)
 }
 
 // What the address rule says: its number, and which memory.
@@ -168,14 +173,14 @@ fn rule(s: Session, rec: &[u8]) -> Session {
     let r = memory_address::rule(handed::number(rec, 1), handed::number(rec, 5));
     match r {
         Ruled::Legal(a) => ruled(s, a),
-        Ruled::Illegal => telling::write(s, &[0x0E, 8, 2], &[], &[]),
+        Ruled::Illegal => telling::write(s, &[0x0E, 8, 2], &[]),
     }
 }
 
 fn ruled(s: Session, a: Address) -> Session {
     match a {
-        Address::Flash(_) => telling::write(s, &[0x0E, 0, 0], &[], &[]),
-        Address::Eeprom(_) => telling::write(s, &[0x0E, 0, 1], &[], &[]),
+        Address::Flash(_) => telling::write(s, &[0x0E, 0, 0], &[]),
+        Address::Eeprom(_) => telling::write(s, &[0x0E, 0, 1], &[]),
     }
 }
 

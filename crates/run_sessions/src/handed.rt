@@ -94,7 +94,7 @@ fn mode(m: u8, s: u8, kind: u8, a: u32) -> Mode {
     }
 }
 
-// The 14 held bytes, from the record's eleventh argument on.
+// The 14 held bytes, from the record's tenth argument on, and a fifteenth that stands behind the record.
 fn held(s: &[u8]) -> [u8; 15] {
     [
         byte_at(s, 11),
@@ -111,8 +111,13 @@ fn held(s: &[u8]) -> [u8; 15] {
         byte_at(s, 22),
         byte_at(s, 23),
         byte_at(s, 24),
-        0,
+        byte_at(s, 36),
     ]
+}
+
+// The count of held bytes: its low byte, and the number above it.
+fn count(low: u8, high: u32) -> usize {
+    high as usize * 256 + low as usize
 }
 
 // The node's record of a hand-in, as it stands: nothing is tidied.
@@ -128,7 +133,7 @@ pub fn node(s: &[u8]) -> Node {
         },
         receiver: Receiver {
             held: held(s),
-            count: byte_at(s, 10) as usize,
+            count: count(byte_at(s, 10), number(s, 32)),
         },
         mode: mode(
             byte_at(s, 25),

@@ -47,7 +47,7 @@ fn stream(flash: &mut [u8], eeprom: &mut [u8]) {
 }
 
 fn main() {
-    let mut flash = [0u8; 65537];
-    let mut eeprom = [0u8; 1025];
+    let mut flash = [0u8; 131_136];
+    let mut eeprom = [0u8; 65_600];
     stream(&mut flash, &mut eeprom);
 }

@@ -49,21 +49,37 @@ fn finish(s: Session, bytes: &[u8]) -> Session {
     session::answered(s, run_digest::with_bytes(s.digest, bytes))
 }
 
-// The session after an event whose answer bytes, the kind in front, come in three pieces.
-pub fn write(s: Session, head: &[u8], middle: &[u8], last: &[u8]) -> Session {
+// The session after an event whose answer bytes, the kind in front, come in two pieces.
+pub fn write(s: Session, head: &[u8], last: &[u8]) -> Session {
+    write_four(s, head, last, &[], &[])
+}
+
+// The session after an event whose answer bytes, the kind in front, come in four pieces.
+fn write_four(s: Session, head: &[u8], second: &[u8], third: &[u8], last: &[u8]) -> Session {
     let mut space = [0u8; 128];
-    write_with(s, head, middle, last, &mut space)
+    write_with(s, head, second, third, last, &mut space)
 }
 
-fn write_with(s: Session, head: &[u8], middle: &[u8], last: &[u8], line: &mut [u8]) -> Session {
-    let first = slices::append(line, 0, head);
-    let second = slices::append(line, first, middle);
-    let end = slices::append(line, second, last);
-    finish(s, slices::part(line, 0, end))
+fn write_with(
+    s: Session,
+    head: &[u8],
+    second: &[u8],
+    third: &[u8],
+    last: &[u8],
+    line: &mut [u8],
+) -> Session {
+    let a = slices::append(line, 0, head);
+    let b = slices::append(line, a, second);
+    let c = slices::append(line, b, third);
+    let d = slices::append(line, c, last);
+    finish(s, slices::part(line, 0, d))
 }
 
-// The session with this node after an event whose answer ends with it as NODE.
+// The session with this node after an event whose answer ends with it as NODE, and the fifteenth held byte.
 pub fn write_node(s: Session, head: &[u8], replies: &[u8], n: Node) -> Session {
-    let last = run_record::bytes_of(n);
-    write(session::with_node(s, n), head, replies, &last)
+    let receiver = n.receiver;
+    let held = receiver.held;
+    let record = run_record::bytes_of(n);
+    let next = session::with_node(s, n);
+    write_four(next, head, replies, &record, &[held[14]])
 }

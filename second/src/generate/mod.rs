@@ -6,7 +6,7 @@ mod records;
 mod requests;
 mod restarts;
 
-use crate::event::{Event, LONGEST};
+use crate::event::{Event, LONGEST, LONGEST_CAN};
 use crate::memory::{EEPROM_BASE, EEPROM_CELLS, FLASH_CELLS};
 use crate::node::Mode;
 use crate::random::Random;
@@ -60,8 +60,9 @@ impl<W: Write> Writer<'_, W> {
         }
         let mut record = event.write();
         let longest = LONGEST as u8;
-        if event.kind() == 0x02 && record[1] == longest {
-            record[1] = self.random.pick(&[20, 21, 63, 255]);
+        if matches!(&event, Event::CanFrame(frame) if frame.len() == LONGEST_CAN) {
+            let length: u16 = self.random.pick(&[1_024, 1_025, 65_535]);
+            record[1..3].copy_from_slice(&length.to_be_bytes());
         }
         if event.kind() == 0x0A && record[5] == longest {
             record[5] = self.random.pick(&[20, 21, 255]);
@@ -83,7 +84,10 @@ impl<W: Write> Writer<'_, W> {
         self.block = 0x001000 + 64 * self.random.below(960) as u32;
         self.row = EEPROM_BASE + 8 * self.random.below(128) as u32;
         self.damage = self.random.pick(&[0, 6, 12, 25]);
-        self.emit(Event::Begin { flash, eeprom, fixed, full });
+        // Every second pair of sessions begins with mixed memories.
+        let (step, more) =
+            if index % 4 < 2 { (0, 0) } else { (1 | self.random.any(), self.random.any()) };
+        self.emit(Event::Begin { flash, eeprom, fixed, full, step, more });
         while self.session.events < self.limit && self.result.is_ok() {
             self.scene();
         }
@@ -93,13 +97,13 @@ impl<W: Write> Writer<'_, W> {
     /// One scene of a session.
     fn scene(&mut self) {
         if !self.lengths_right() && self.random.chance(60) {
-            self.emit(Event::Lend { flash: 0, eeprom: 0 });
+            self.lend_right();
         }
         if self.deaf() && self.random.chance(60) {
             self.prepared_restart();
             return;
         }
-        match self.random.weighted(&[40, 9, 3, 2, 10, 16, 20, 8, 4, 3, 3, 2, 1]) {
+        match self.random.weighted(&[40, 9, 3, 2, 10, 16, 20, 8, 4, 3, 3, 2, 1, 1, 1]) {
             0 if self.programming() && self.random.chance(60) => self.programming_scene(),
             0 => (0..1 + self.random.below(5)).for_each(|_| self.any_request()),
             1 => self.programming_scene(),
@@ -113,7 +117,10 @@ impl<W: Write> Writer<'_, W> {
             9 => self.wrong_lengths(),
             10 => self.cut_uart(),
             11 => self.noise(),
-            _ => self.strange_record(),
+            12 => self.strange_record(),
+            13 => self.noise_with_start(),
+            _ if self.random.chance(30) => self.round_sum_scene(),
+            _ => self.noise(),
         }
     }
 

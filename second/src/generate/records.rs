@@ -4,17 +4,49 @@ use super::ports::Port;
 use super::Writer;
 use crate::event::Event;
 use crate::frames;
-use crate::memory::EEPROM_BASE;
+use crate::memory::{EEPROM_BASE, EEPROM_CELLS, FLASH_CELLS};
 use crate::node::HELD;
 use crate::node_record::*;
 use std::io::Write;
 
+/// Lengths of FLASH and EEPROM of which at least one is wrong; the last are more than there are.
+const WRONG_LENGTHS: [(u32, u32); 24] = [
+    (65_535, 1_024),
+    (65_537, 1_024),
+    (65_536, 1_023),
+    (65_536, 1_025),
+    (65_535, 1_023),
+    (65_537, 1_025),
+    (65_535, 1_025),
+    (65_537, 1_023),
+    (65_535, 1_025),
+    (65_537, 1_023),
+    (0, 1_024),
+    (65_536, 0),
+    (0, 0),
+    (1_024, 65_536),
+    (1_024, 65_536),
+    (1_024, 1_024),
+    (65_536, 65_536),
+    (131_072, 1_024),
+    (131_072, 1_024),
+    (65_536, 2_048),
+    (32_768, 1_024),
+    (64, 8),
+    (4_096, 40),
+    (u32::MAX, u32::MAX),
+];
+
 impl<W: Write> Writer<'_, W> {
-    /// Lends memories of which at least one is of a wrong length.
+    /// Lends memories of which at least one is of a wrong length: by one, by much, or exchanged.
     pub fn lend_wrong(&mut self) {
-        let (flash, eeprom) =
-            self.random.pick(&[(1, 0), (2, 0), (0, 1), (0, 2), (1, 1), (2, 1), (255, 7), (0, 255)]);
+        let (flash, eeprom) = self.random.pick(&WRONG_LENGTHS);
         self.emit(Event::Lend { flash, eeprom });
+    }
+
+    /// Lends memories of the right lengths.
+    pub fn lend_right(&mut self) {
+        self.emit(Event::Lend { flash: FLASH_CELLS as u32, eeprom: EEPROM_CELLS as u32 });
     }
 
     /// Some events with wrong memory lengths, sometimes also with an untidy record.
@@ -36,7 +68,7 @@ impl<W: Write> Writer<'_, W> {
             }
         }
         if self.random.chance(80) {
-            self.emit(Event::Lend { flash: 0, eeprom: 0 });
+            self.lend_right();
         }
     }
 
@@ -44,6 +76,10 @@ impl<W: Write> Writer<'_, W> {
     pub fn hand_in(&mut self) {
         let record = self.hostile_record();
         self.emit(Event::HandIn(record));
+        if record[COUNT_ABOVE_AT..FIFTEENTH_AT] != [0; 4] {
+            self.after_high_count();
+            return;
+        }
         if record[HELD_COUNT_AT] as usize == HELD && self.random.chance(70) {
             self.finish_held();
             return;
@@ -64,12 +100,28 @@ impl<W: Write> Writer<'_, W> {
         }
     }
 
+    /// What shows that a count above 255 means no held bytes: a UART byte, a frame or a restart.
+    pub fn after_high_count(&mut self) {
+        match self.random.below(4) {
+            0..=1 => {
+                let byte = self.random.byte();
+                self.emit(Event::UartByte(byte));
+            }
+            2 => {
+                let frame = self.some_frame();
+                self.send(Port::Can, frame);
+            }
+            _ => self.emit_restart(),
+        }
+    }
+
     /// A node record, in one or more ways unlike those the node makes.
-    pub fn hostile_record(&mut self) -> [u8; NODE] {
+    pub fn hostile_record(&mut self) -> [u8; HANDED] {
         if self.random.chance(10) {
             return std::array::from_fn(|_| self.random.byte());
         }
-        let mut record = write(&self.session.node.tidied());
+        let mut record = [0; HANDED];
+        record[..NODE].copy_from_slice(&write(&self.session.node.tidied()));
         record[0] = self.random.pick(&[0, 1, 1, 1, 1, 1, 2, 255]);
         if self.random.chance(30) {
             (record[7], record[8]) = (self.random.byte(), self.random.byte());
@@ -92,16 +144,33 @@ impl<W: Write> Writer<'_, W> {
             1 => self.random.pick(&[2, 255]),
             _ => in_eeprom as u8,
         };
-        record[ADDRESS_AT..].copy_from_slice(&address.to_be_bytes());
+        record[ADDRESS_AT..NODE].copy_from_slice(&address.to_be_bytes());
         if self.random.chance(6) {
             record[ADDRESS_AT] = self.random.any();
         }
         self.hostile_held(&mut record);
+        if self.random.chance(10) {
+            self.high_count(&mut record);
+        }
+        if self.random.chance(20) {
+            record[FIFTEENTH_AT] = 1 | self.random.any();
+        }
         record
     }
 
+    /// A count of held bytes above 255, mostly one whose low byte would do.
+    pub fn high_count(&mut self, record: &mut [u8; HANDED]) {
+        let any = self.random.next();
+        let above = self.random.pick(&[1, 1, 256, 0x0100_0000, u32::MAX, any]);
+        record[COUNT_ABOVE_AT..FIFTEENTH_AT].copy_from_slice(&above.to_be_bytes());
+        if self.random.chance(80) {
+            record[HELD_AT] = frames::START;
+            record[HELD_COUNT_AT] = 1 + self.random.below(HELD) as u8;
+        }
+    }
+
     /// Held bytes of a record: of a good frame, or too many, or not starting with 0xAA.
-    pub fn hostile_held(&mut self, record: &mut [u8; NODE]) {
+    pub fn hostile_held(&mut self, record: &mut [u8; HANDED]) {
         if self.random.chance(40) {
             return;
         }

@@ -73,10 +73,14 @@ impl<W: Write> Writer<'_, W> {
                 data[5] = self.command();
             }
         } else if GROUP_TYPES.contains(&kind) {
-            (data[2], data[3]) = match self.random.below(12) {
+            (data[2], data[3]) = match self.random.below(13) {
                 0..=3 => (0, 0),
                 4..=8 => (0, group),
                 9 => (self.random.pick(&[module, 1, 0xFF]), self.random.pick(&[0, group])),
+                10 => {
+                    let other = [group ^ 1, group ^ 0x80, module, self.random.any()];
+                    (self.random.pick(&[module, 1, 0xFF]), self.random.pick(&other))
+                }
                 _ => (0, self.random.byte()),
             };
         } else {

@@ -1,10 +1,17 @@
 //! Restarts, and the cells that decide what a restart comes to.
 
+use super::ports::Port;
 use super::requests::NEAR_RIMS;
 use super::Writer;
 use crate::event::Event;
 use crate::memory::*;
 use std::io::Write;
+
+/// The last cells of each memory and those behind them, and the last that a session has.
+const RIM_CELLS: [u32; 10] = [
+    0x00FFFF, 0x010000, 0x010001, 0x02003F, 0x020040, 0xF003FF, 0xF00400, 0xF00401, 0xF1003F,
+    0xF10040,
+];
 
 impl<W: Write> Writer<'_, W> {
     /// A restart with some pin and verdict.
@@ -61,16 +68,56 @@ impl<W: Write> Writer<'_, W> {
             2 => sum = sum.swap_bytes() >> 8,
             _ => {}
         }
-        let [_, high, middle, low] = sum.to_be_bytes();
-        for (index, byte) in [high, middle, low].into_iter().enumerate() {
-            self.set((STORED_SUM + index) as u32, byte);
-        }
+        self.set_stored_sum(sum);
         if self.random.chance(20) {
             let value = self.random.any();
             let rims = [0x000FFF, SUM_FIRST as u32, SUM_LAST as u32, SUM_LAST as u32 + 1];
             let cell = self.random.pick(&rims);
             self.set(cell, value);
         }
+    }
+
+    /// Changes the stored sum.
+    pub fn set_stored_sum(&mut self, sum: u32) {
+        let [_, high, middle, low] = sum.to_be_bytes();
+        for (index, byte) in [high, middle, low].into_iter().enumerate() {
+            self.set((STORED_SUM + index) as u32, byte);
+        }
+    }
+
+    /// Changes cells until the firmware sum is a multiple of 65,536, the nearest one.
+    pub fn round_sum(&mut self) {
+        let low = firmware_sum(&self.session.flash) % 65_536;
+        let raise = low >= 32_768;
+        let mut rest = if raise { 65_536 - low } else { low };
+        let mut cell = SUM_FIRST + self.random.below(SUM_LAST - SUM_FIRST + 1);
+        for _ in SUM_FIRST..=SUM_LAST {
+            let old = self.session.flash[cell] as u32;
+            let by = rest.min(if raise { 255 - old } else { old });
+            if by > 0 {
+                self.set(cell as u32, (if raise { old + by } else { old - by }) as u8);
+            }
+            rest -= by;
+            if rest == 0 {
+                return;
+            }
+            cell = if cell == SUM_LAST { SUM_FIRST } else { cell + 1 };
+        }
+    }
+
+    /// A firmware sum that is a multiple of 65,536, stored as it is or with another high byte; then
+    /// a restart, and a request that shows the sum.
+    pub fn round_sum_scene(&mut self) {
+        self.round_sum();
+        let sum = firmware_sum(&self.session.flash);
+        let other = 1 << (16 + self.random.below(7));
+        let stored = if self.random.chance(50) { sum } else { sum ^ other };
+        self.set_stored_sum(stored);
+        self.set(EEPROM_BASE, 0x00);
+        self.emit(Event::Restart { pin: 1, self_test: 0 });
+        let frame = self.frame_of(0x106);
+        let port = if self.random.chance(40) { Port::Uart } else { Port::Can };
+        self.send(port, frame);
     }
 
     /// Changes some cell: a named one, one near a rim, or one of the favourite block.
@@ -83,7 +130,7 @@ impl<W: Write> Writer<'_, W> {
             1 => EEPROM_BASE + DESCRIPTION as u32 + near % 16,
             2..=4 => self.block + near,
             5 => self.random.pick(&NEAR_RIMS) + near % 8,
-            6 => self.random.pick(&[0x00FFFF, 0x010000, 0x010001, 0xF003FF, 0xF00400, 0xF00401]),
+            6 => self.random.pick(&RIM_CELLS),
             7 => far,
             _ => far & 0xFFFF,
         };

@@ -9,10 +9,10 @@ use Rattle.run_sessions.proofs.slices.fill.Statement.{statement}
 use Rattle.run_sessions.proofs.slices.fill.Tie as tie
 
 abbrev Inv-loop : tie.InvT-loop
-Inv-loop s₀ v i₀ s i = length s ≡ length s₀
+Inv-loop s₀ v step more value₀ i₀ s value i = length s ≡ length s₀
 
 abbrev μ-loop : tie.MeasureT-loop
-μ-loop s₀ v i₀ s i = length s₀ - i
+μ-loop s₀ v step more value₀ i₀ s value i = length s₀ - i
 
 loop-holds : tie.Need-loop-holds Inv-loop μ-loop
 loop-holds c = search needs
@@ -22,6 +22,9 @@ slice-write-s c = omega arith
 
 add-i : tie.Need-add-i Inv-loop μ-loop
 add-i c = omega arith
+
+next-requires : tie.Need-next-requires Inv-loop μ-loop
+next-requires c κs = tt
 
 loop-less : tie.Need-loop-less Inv-loop μ-loop
 loop-less c = omega arith
@@ -44,6 +47,7 @@ fill-spec =
     loop-holds
     slice-write-s
     add-i
+    next-requires
     loop-less
     loop-again
     same-length
