@@ -12,33 +12,8 @@ use Rattle.base.proofs.Choice.{by-cond, both-true, true-both}
 use Rattle.memory_address.specs.declared.Address.the-variants.{Flash, Eeprom}
 use Rattle.memory_address.specs.declared.Ruled.{Ruled}
 use Rattle.memory_address.specs.declared.Ruled.the-variants.{Legal, Illegal}
-use Rattle.memory_address.specs.Rule.{ruled, isFlash, isEeprom, numbered}
-
--- a multiple of step from low to high, both in it
-abbrev pub Multiple : ℕ → ℕ → ℕ → ℕ → Type 0
-Multiple step low high a = (low ≤ a) × (a ≤ high) × (a % step ≡ 0)
-
--- the one holds exactly if the other does
-abbrev pub Exactly : Type 0 → Type 0 → Type 0
-Exactly P Q = (P → Q) × (Q → P)
-
--- FLASH, or EEPROM, at this number
-abbrev pub flashAt : ℕ → Ruled
-flashAt a = Legal (Flash (record { 0 = a }))
-
-abbrev pub eepromAt : ℕ → Ruled
-eepromAt a = Legal (Eeprom (record { 0 = a }))
-
--- "at multiples of 8, in 0x001000 to 0x00FFF8 or 0xF00000 to 0xF003F8"
-abbrev pub FlashRow : ℕ → Type 0
-FlashRow a = Multiple 8 0x001000 0x00FFF8 a
-
-abbrev pub EepromRow : ℕ → Type 0
-EepromRow a = Multiple 8 0xF00000 0xF003F8 a
-
--- "at multiples of 64 in 0x001000 to 0x00FFC0"
-abbrev pub Block : ℕ → Type 0
-Block a = Multiple 64 0x001000 0x00FFC0 a
+use Rattle.memory_address.specs.Rule.{ruled, isFlash, isEeprom, numbered, inFlash, inEeprom}
+use Rattle.memory_address.specs.Ranges.{Multiple, Exactly, FlashRow, EepromRow, Block}
 
 -- ---- a test, and two of them one after the other
 
@@ -56,37 +31,37 @@ says-test step low high a m =
     true-both (leb low a) _ (le-leb low a (m .0)) (true-both (leb a high) _ (le-leb a high (m .1)) (eq-eqb (a % step) 0 (m .2)))
 
 module _ (s l h : ℕ) (a : ℕ) where
-  one-exactly : Exactly (cond (test s l h a) (flashAt a) Illegal ≡ flashAt a) (Multiple s l h a)
+  one-exactly : Exactly (cond (test s l h a) (inFlash a) Illegal ≡ inFlash a) (Multiple s l h a)
   one-exactly = (
-    by-cond (λ (r : Ruled). r ≡ flashAt a → Multiple s l h a) (test s l h a) _ _ (λ t _. test-says s l h a t)
+    by-cond (λ (r : Ruled). r ≡ inFlash a → Multiple s l h a) (test s l h a) _ _ (λ t _. test-says s l h a t)
         (λ _ e. absurd (false≢true (ap isFlash e))),
     λ m. rw (says-test s l h a m) refl,
   )
 
-  one-else : (Multiple s l h a → ⊥) → cond (test s l h a) (flashAt a) Illegal ≡ Illegal
+  one-else : (Multiple s l h a → ⊥) → cond (test s l h a) (inFlash a) Illegal ≡ Illegal
   one-else n =
       by-cond (λ (r : Ruled). r ≡ Illegal) (test s l h a) _ _ (λ t. absurd (n (test-says s l h a t))) (λ _. refl)
 
 module _ (s l h s′ l′ h′ : ℕ) (apart : h < l′) (a : ℕ) where
   abbrev two : Ruled
-  two = cond (test s l h a) (flashAt a) (cond (test s′ l′ h′ a) (eepromAt a) Illegal)
+  two = cond (test s l h a) (inFlash a) (cond (test s′ l′ h′ a) (inEeprom a) Illegal)
 
-  first-exactly : Exactly (two ≡ flashAt a) (Multiple s l h a)
+  first-exactly : Exactly (two ≡ inFlash a) (Multiple s l h a)
   first-exactly = (
-    by-cond (λ (r : Ruled). r ≡ flashAt a → Multiple s l h a) (test s l h a) _ _ (λ t _. test-says s l h a t)
-        (λ _. by-cond (λ (r : Ruled). r ≡ flashAt a → Multiple s l h a) (test s′ l′ h′ a) _ _
+    by-cond (λ (r : Ruled). r ≡ inFlash a → Multiple s l h a) (test s l h a) _ _ (λ t _. test-says s l h a t)
+        (λ _. by-cond (λ (r : Ruled). r ≡ inFlash a → Multiple s l h a) (test s′ l′ h′ a) _ _
         (λ _ e. absurd (false≢true (ap isFlash e))) (λ _ e. absurd (false≢true (ap isFlash e)))),
     λ m. rw (says-test s l h a m) refl,
   )
 
-  second-exactly : Exactly (two ≡ eepromAt a) (Multiple s′ l′ h′ a)
+  second-exactly : Exactly (two ≡ inEeprom a) (Multiple s′ l′ h′ a)
   second-exactly = (
-    by-cond (λ (r : Ruled). r ≡ eepromAt a → Multiple s′ l′ h′ a) (test s l h a) _ _
+    by-cond (λ (r : Ruled). r ≡ inEeprom a → Multiple s′ l′ h′ a) (test s l h a) _ _
         (λ _ e. absurd (false≢true (ap isEeprom e)))
-        (λ _. by-cond (λ (r : Ruled). r ≡ eepromAt a → Multiple s′ l′ h′ a) (test s′ l′ h′ a) _ _
+        (λ _. by-cond (λ (r : Ruled). r ≡ inEeprom a → Multiple s′ l′ h′ a) (test s′ l′ h′ a) _ _
         (λ t _. test-says s′ l′ h′ a t) (λ _ e. absurd (false≢true (ap isEeprom e)))),
     λ m.
-        by-cond (λ (r : Ruled). r ≡ eepromAt a) (test s l h a) _ _
+        by-cond (λ (r : Ruled). r ≡ inEeprom a) (test s l h a) _ _
         (λ t. let k = test-says s l h a t in let z : ⊥ = omega arith in absurd z)
         (λ _. rw (says-test s′ l′ h′ a m) refl),
   )
@@ -99,7 +74,7 @@ module _ (s l h s′ l′ h′ : ℕ) (apart : h < l′) (a : ℕ) where
 -- ---- the rule
 
 -- "read 0x01 .. at multiples of 8, in 0x001000 to 0x00FFF8 or 0xF00000 to 0xF003F8"
-pub read-legal : (a : ℕ) → Exactly (ruled a 0x01 ≡ flashAt a) (FlashRow a) × Exactly (ruled a 0x01 ≡ eepromAt a) (EepromRow a)
+pub read-legal : (a : ℕ) → Exactly (ruled a 0x01 ≡ inFlash a) (FlashRow a) × Exactly (ruled a 0x01 ≡ inEeprom a) (EepromRow a)
     × ((FlashRow a → ⊥) → (EepromRow a → ⊥) → ruled a 0x01 ≡ Illegal)
 unfolding ruled
 read-legal a = (
@@ -109,7 +84,7 @@ read-legal a = (
 )
 
 -- "and write 0x02"
-pub write-legal : (a : ℕ) → Exactly (ruled a 0x02 ≡ flashAt a) (FlashRow a) × Exactly (ruled a 0x02 ≡ eepromAt a) (EepromRow a)
+pub write-legal : (a : ℕ) → Exactly (ruled a 0x02 ≡ inFlash a) (FlashRow a) × Exactly (ruled a 0x02 ≡ inEeprom a) (EepromRow a)
     × ((FlashRow a → ⊥) → (EepromRow a → ⊥) → ruled a 0x02 ≡ Illegal)
 unfolding ruled
 write-legal a = (
@@ -119,7 +94,7 @@ write-legal a = (
 )
 
 -- "Erase 0x03 at multiples of 64 in 0x001000 to 0x00FFC0; EEPROM has none."
-pub erase-legal : (a : ℕ) → Exactly (ruled a 0x03 ≡ flashAt a) (Block a) × ((Block a → ⊥) → ruled a 0x03 ≡ Illegal)
+pub erase-legal : (a : ℕ) → Exactly (ruled a 0x03 ≡ inFlash a) (Block a) × ((Block a → ⊥) → ruled a 0x03 ≡ Illegal)
 unfolding ruled
 erase-legal a = (one-exactly 64 0x001000 0x00FFC0 a, one-else 64 0x001000 0x00FFC0 a)
 
@@ -134,15 +109,15 @@ other-illegal a command r w e =
 
 -- the ends of each range, and what lies one step outside and one number beside them
 pub ends : (map (λ a. ruled a 0x01) (0x000FF8 ∷ 0x001000 ∷ 0x001004 ∷ 0x00FFF8 ∷ 0x010000 ∷ [])
-    ≡ Illegal ∷ flashAt 0x001000 ∷ Illegal ∷ flashAt 0x00FFF8 ∷ Illegal ∷ [])
+    ≡ Illegal ∷ inFlash 0x001000 ∷ Illegal ∷ inFlash 0x00FFF8 ∷ Illegal ∷ [])
     × (map (λ a. ruled a 0x01) (0xEFFFF8 ∷ 0xF00000 ∷ 0xF00004 ∷ 0xF003F8 ∷ 0xF00400 ∷ [])
-    ≡ Illegal ∷ eepromAt 0xF00000 ∷ Illegal ∷ eepromAt 0xF003F8 ∷ Illegal ∷ [])
+    ≡ Illegal ∷ inEeprom 0xF00000 ∷ Illegal ∷ inEeprom 0xF003F8 ∷ Illegal ∷ [])
     × (map (λ a. ruled a 0x02) (0x000FF8 ∷ 0x001000 ∷ 0x001004 ∷ 0x00FFF8 ∷ 0x010000 ∷ [])
-    ≡ Illegal ∷ flashAt 0x001000 ∷ Illegal ∷ flashAt 0x00FFF8 ∷ Illegal ∷ [])
+    ≡ Illegal ∷ inFlash 0x001000 ∷ Illegal ∷ inFlash 0x00FFF8 ∷ Illegal ∷ [])
     × (map (λ a. ruled a 0x02) (0xEFFFF8 ∷ 0xF00000 ∷ 0xF00004 ∷ 0xF003F8 ∷ 0xF00400 ∷ [])
-    ≡ Illegal ∷ eepromAt 0xF00000 ∷ Illegal ∷ eepromAt 0xF003F8 ∷ Illegal ∷ [])
+    ≡ Illegal ∷ inEeprom 0xF00000 ∷ Illegal ∷ inEeprom 0xF003F8 ∷ Illegal ∷ [])
     × (map (λ a. ruled a 0x03) (0x000FC0 ∷ 0x001000 ∷ 0x001008 ∷ 0x00FFC0 ∷ 0x00FFC8 ∷ 0x00FFF8 ∷ 0xF00000 ∷ [])
-    ≡ Illegal ∷ flashAt 0x001000 ∷ Illegal ∷ flashAt 0x00FFC0 ∷ Illegal ∷ Illegal ∷ Illegal ∷ [])
+    ≡ Illegal ∷ inFlash 0x001000 ∷ Illegal ∷ inFlash 0x00FFC0 ∷ Illegal ∷ Illegal ∷ Illegal ∷ [])
 unfolding ruled
 ends = (refl, refl, refl, refl, refl)
 

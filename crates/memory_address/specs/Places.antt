@@ -3,7 +3,7 @@ use Prim.Native.Nat.{ℕ, _-_}
 use mathlib.Core.Bool.{Bool, _&&_}
 use mathlib.Core.List.{List}
 use lib.Dec.{eqb}
-use lib.ListN.{length}
+use lib.ListN.{length, replicate}
 
 -- "65,536 FLASH cells and 1,024 EEPROM cells"
 abbrev pub flashCells : ℕ
@@ -52,3 +52,10 @@ firstSummed = 0x001003
 
 abbrev pub summedCells : ℕ
 summedCells = 28669
+
+-- "65,536 FLASH cells and 1,024 EEPROM cells, all 0xFF"
+abbrev pub blankFlash : List ℕ
+blankFlash = replicate 65536 0xFF
+
+abbrev pub blankEeprom : List ℕ
+blankEeprom = replicate 1024 0xFF

@@ -87,6 +87,11 @@ legalFlash a command = isFlash (ruled a command)
 abbrev pub legalEeprom : ℕ → ℕ → Bool
 legalEeprom a command = isEeprom (ruled a command)
 
+-- document 01's number for what the rule says: 0, and 8 for an "illegal address or command"
+abbrev pub ruledNumber : Ruled → ℕ
+ruledNumber (Legal a) = 0
+ruledNumber Illegal = 8
+
 -- the number of a call that works at an address: 1 for a memory of the wrong length, then 8 for an illegal address, else 0
 abbrev pub numbered : Bool → Bool → ℕ
 numbered sized legal = cond sized (cond legal 0 8) 1

@@ -8,12 +8,9 @@ use mathlib.Core.Logic.{_⊎_, inl, inr}
 use Prim.Native.Nat.{ℕ, _-_}
 use lib.ListN.{length, take, drop}
 use borrow.Author.Tests.{eq-eqb, ne-eqb}
-use Rattle.memory_address.proofs.BothSides.{FlashRow, EepromRow, read-legal}
-use Rattle.memory_row.specs.Shown.{shown, shownNumber}
-
--- a number and a part are what is shown at an address
-abbrev pub Shows : List ℕ → List ℕ → ℕ → ℕ → List ℕ → Type 0
-Shows flash eeprom a number row = (shownNumber flash eeprom a ≡ number) × (shown flash eeprom a ≡ row)
+use Rattle.memory_address.proofs.BothSides.{read-legal}
+use Rattle.memory_address.specs.Ranges.{FlashRow, EepromRow}
+use Rattle.memory_row.specs.Shown.{shown, shownNumber, Shows}
 
 and-false : (x : Bool) → (x && false) ≡ false
 and-false true = refl

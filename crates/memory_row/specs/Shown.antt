@@ -1,11 +1,12 @@
 -- "Showing a row hands back the eight cells themselves, a part of FLASH or of EEPROM as the address says."
 use Prim.Native.Nat.{ℕ, _+_}
+use mathlib.Core.Path.{_≡_}
 use mathlib.Core.Bool.{cond}
 use mathlib.Core.List.{List, []}
 use denote.Ref.{RefT, ptr, now}
 use Rattle.base.specs.Parts.{part}
 use Rattle.memory_address.specs.Places.{full, eepromCell}
-use Rattle.memory_address.specs.Rule.{ruled, isLegal, numbered}
+use Rattle.memory_address.specs.Rule.{ruled, ruledNumber}
 use Rattle.memory_address.specs.declared.Address.the-variants.{Flash, Eeprom}
 use Rattle.memory_address.specs.declared.Ruled.{Ruled}
 use Rattle.memory_address.specs.declared.Ruled.the-variants.{Legal, Illegal}
@@ -35,4 +36,8 @@ unfoldable pub shownAt : RefT (List ℕ) → RefT (List ℕ) → ℕ → ℕ × 
 shownAt flash eeprom a = cond (full (now flash) (now eeprom)) (rowLies flash eeprom (ruled a 0x01)) (ptr flash)
 
 unfoldable pub shownNumber : List ℕ → List ℕ → ℕ → ℕ
-shownNumber flash eeprom a = numbered (full flash eeprom) (isLegal (ruled a 0x01))
+shownNumber flash eeprom a = cond (full flash eeprom) (ruledNumber (ruled a 0x01)) 1
+
+-- a number and a part are what is shown at an address
+abbrev pub Shows : List ℕ → List ℕ → ℕ → ℕ → List ℕ → Type 0
+Shows flash eeprom a number row = (shownNumber flash eeprom a ≡ number) × (shown flash eeprom a ≡ row)

@@ -17,7 +17,4 @@ pub mod Running
 pub mod Agreement
 pub mod Witnesses
 pub mod AgreementWitness
-pub mod Reached
-pub mod Refusing
-pub mod TwoFaults
 pub mod Pinned

@@ -4,6 +4,7 @@ use Prim.Native.Nat.{ℕ}
 use mathlib.Core.Bool.{true, false}
 use mathlib.Core.List.{List, [], _∷_, _++_}
 use lib.ListN.{take, replicate}
+use Rattle.memory_address.specs.Places.{blankFlash}
 use Rattle.memory_address.specs.Rule.{ruled, isLegal}
 use Rattle.frame_rules.specs.Frame.{identifierOf, headOf}
 use Rattle.memory_leaves.specs.Leaves.{flashCellsAfter}
@@ -12,7 +13,7 @@ use Rattle.recipe.specs.declared.Translated.{Translated}
 use Rattle.recipe.specs.declared.Translated.the-variants.{Frames, Refused}
 use Rattle.recipe.specs.Translation.{translated, translatedOutput}
 use Rattle.samples.specs.Entries.{Sample, bytes, number, verdict, S1, S2, S3, S4, S5, S6, S7, S8, S9, S10, S11, Blank}
-use Rattle.samples.specs.Uart.{blankFlash, numbersOf, fed}
+use Rattle.samples.specs.Uart.{numbersOf, leftByLast}
 
 -- S3: "AA 10 00 F0 F0 FF FF 05 0A FF FF FF FF F9 A5"
 abbrev pub enterOnUart : List ℕ
@@ -25,9 +26,9 @@ rowRecipe =
     0x01 ∷ 0x05 ∷ 0x0A ∷ 0x03 ∷ 0xF0 ∷ 0x00 ∷ 0x30 ∷ 0x41 ∷ 0x42 ∷ 0x43 ∷ 0x44 ∷ 0x45 ∷ 0x46 ∷ 0x47 ∷ 0x48 ∷ 0x0F ∷ []
 
 -- how many frames a translation reports; none where it is refused
-abbrev pub framesIn : Translated → ℕ
-framesIn (Frames count) = count
-framesIn (Refused refusal place) = 0
+abbrev pub countIn : Translated → ℕ
+countIn (Frames count) = count
+countIn (Refused refusal place) = 0
 
 unfoldable pub samples : List Sample
 samples =
@@ -40,8 +41,8 @@ samples =
     -- "S3 .. to node 05, 0A in normal mode, pin CAN and UART": fourteen bytes are held, the fifteenth is done
     bytes S3 (numbersOf enterOnUart) (replicate 14 10 ++ (0 ∷ [])) ∷
     -- "reply S4 AA 10 01 05 0A FF FF 03 04 FF FF FF FF 21 A5": one reply, and it is this
-    number S4 (fed enterOnUart .answer .count) 1 ∷
-    bytes S4 (take 15 (fed enterOnUart .answer .replies))
+    number S4 (leftByLast enterOnUart .answer .count) 1 ∷
+    bytes S4 (take 15 (leftByLast enterOnUart .answer .replies))
     (0xAA ∷ 0x10 ∷ 0x01 ∷ 0x05 ∷ 0x0A ∷ 0xFF ∷ 0xFF ∷ 0x03 ∷ 0x04 ∷ 0xFF ∷ 0xFF ∷ 0xFF ∷ 0xFF ∷ 0x21 ∷ 0xA5 ∷ []) ∷
     -- "S5 write 0x00FFF8 legal; S6 0x000FF8 and 0x010000 not."
     verdict S5 (isLegal (ruled 0x00FFF8 0x02)) true ∷
@@ -58,7 +59,7 @@ samples =
     bytes S10 (flashCellsAfter (replicate 8 0x0F) (replicate 8 0xF3)) (replicate 8 0x03) ∷
     -- "S11 recipe .. gives 36 bytes: 03 00 05 0A F0 00 30 FF FF 02 FF FF, 04 00 05 0A 41 42 43 44 45 46 47 48,
     -- 02 00 05 0A FF FF FF FF FF FF FF FF"
-    number S11 (framesIn (translated rowRecipe 36)) 3 ∷
+    number S11 (countIn (translated rowRecipe 36)) 3 ∷
     bytes S11 (translatedOutput rowRecipe (replicate 36 0))
     (0x03 ∷ 0x00 ∷ 0x05 ∷ 0x0A ∷ 0xF0 ∷ 0x00 ∷ 0x30 ∷ 0xFF ∷ 0xFF ∷ 0x02 ∷ 0xFF ∷ 0xFF ∷
     0x04 ∷ 0x00 ∷ 0x05 ∷ 0x0A ∷ 0x41 ∷ 0x42 ∷ 0x43 ∷ 0x44 ∷ 0x45 ∷ 0x46 ∷ 0x47 ∷ 0x48 ∷
