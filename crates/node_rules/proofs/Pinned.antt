@@ -1,7 +1,7 @@
 -- What document 01 says of a fresh node, of an illegal staged command, of refusals and of two replies on UART, each in its own words and
 -- numbers. The examples (specs/Examples.antt) hold by computing.
 -- Assumes nothing.
-use mathlib.Core.Path.{_≡_, refl}
+use mathlib.Core.Path.{_≡_, _∙_, refl, ap}
 use mathlib.Core.Bool.{Bool, true, false, cond}
 use mathlib.Core.List.{List, [], _∷_, _++_}
 use Prim.Native.Nat.{ℕ}
@@ -16,17 +16,20 @@ use Rattle.memory_address.proofs.Laws.{flash-ruled, eeprom-ruled}
 use Rattle.memory_address.proofs.BothSides.{read-legal, write-legal, erase-legal}
 use Rattle.memory_address.specs.Ranges.{Exactly, FlashRow, EepromRow, Block}
 use Rattle.frame_rules.specs.Wrapping.{wrappedOf, rightlyWrapped}
+use Rattle.node_rules.specs.declared.Pin.{Pin}
 use Rattle.node_rules.specs.declared.Pin.the-variants.{CanOnly, CanAndUart}
 use Rattle.node_rules.specs.declared.Staged.{Staged}
 use Rattle.node_rules.specs.declared.Staged.the-variants.{Nothing, Read, Write, Erase}
+use Rattle.node_rules.specs.declared.Mode.{Mode}
 use Rattle.node_rules.specs.declared.Mode.the-variants.{Normal, Programming, Error, Waiting}
 use Rattle.node_rules.specs.declared.Node.{Node}
-use Rattle.node_rules.specs.Record.{heldIn, legalStaged, tidied, freshNode}
+use Rattle.node_rules.specs.Record.{heldIn, heldOf, legalStaged, tidied, freshNode}
 use Rattle.node_rules.specs.Requests.{handledTypes, found}
 use Rattle.node_rules.specs.Outcomes.{decided}
 use Rattle.node_rules.specs.Step.{done, canStep}
-use Rattle.node_rules.specs.Uart.{heldAfterBad, uartStep}
-use Rattle.node_rules.specs.Examples.{node050A, AllRefused, allButStop, asking, refusals, MayBeStaged, described}
+use Rattle.node_rules.specs.Uart.{heldWith, heldAfterBad, heldDecided, heldDone, uartStep, silent}
+use Rattle.node_rules.specs.Reading.{leaves}
+use Rattle.node_rules.specs.Examples.{node050A, Row, onCan, onUart, onBoth, OnCan, OnUart, Refused, AllRefused, allButStop, asking, refusals, MayBeStaged, described}
 
 -- "A fresh node takes the six bytes, has own numbers 0, no bytes held, pin CAN only, and waits for restart."
 pub fresh-says : (six : List ℕ) → (freshNode six .plate .fixed ≡ six)
@@ -69,22 +72,74 @@ pub legal-stays : (n : Node) (s : Staged) → n .mode ≡ Programming s → MayB
 unfolding tidied
 legal-stays n s e m = rw e (rw (staged-says s .0 m) refl)
 
--- row by row
+-- ---- the table of refusals (specs/Examples.antt): whether both memories have their size is asked once, and the rest computes
+
+-- what a row says once that is asked
+abbrev CanComputes : ℕ → Bool → Mode → List ℕ → Mode → Type 0
+CanComputes number sized m f m′ = (flash eeprom : List ℕ)
+    → let n = tidied (node050A CanOnly m []) in
+    done (decided n sized f) n f flash eeprom ≡ leaves number 0 (replicate 24 0) (node050A CanOnly m′ []) flash eeprom
+
+abbrev UartComputes : ℕ → Bool → Pin → Mode → List ℕ → ℕ → List ℕ → Mode → Type 0
+UartComputes number sized p m xs b xs′ m′ = (flash eeprom : List ℕ)
+    → let n = tidied (node050A p m xs) in
+    let with = heldWith (heldOf n) b in
+    heldDone (heldDecided n sized with) n with flash eeprom ≡ silent number (node050A p m′ xs′) flash eeprom
+
+abbrev Computes : Row → Type 0
+Computes (onCan number sized m f m′) = CanComputes number sized m f m′
+Computes (onUart number sized p m xs b xs′) = UartComputes number sized p m xs b xs′ m
+Computes (onBoth number m f m′) = CanComputes number true m f m′ × UartComputes number true CanAndUart m (allButStop f) 0xA5 [] m′
+
+abbrev AllCompute : List Row → Type 0
+AllCompute [] = Unit {0}
+AllCompute (r ∷ rs) = Computes r × AllCompute rs
+
+can-computed : (number : ℕ) (sized : Bool) (m : Mode) (f : List ℕ) (m′ : Mode) → CanComputes number sized m f m′ → OnCan number sized m f m′
+unfolding canStep
+can-computed number sized m f m′ e flash eeprom h =
+    let n = tidied (node050A CanOnly m []) in
+    ap (λ (b : Bool). done (decided n b f) n f flash eeprom) h ∙ e flash eeprom
+
+uart-computed : (number : ℕ) (sized : Bool) (p : Pin) (m : Mode) (xs : List ℕ) (b : ℕ) (xs′ : List ℕ) (m′ : Mode)
+    → UartComputes number sized p m xs b xs′ m′ → OnUart number sized p m xs b xs′ m′
+unfolding uartStep
+uart-computed number sized p m xs b xs′ m′ e flash eeprom h =
+    let n = tidied (node050A p m xs) in
+    let with = heldWith (heldOf n) b in
+    ap (λ (s : Bool). heldDone (heldDecided n s with) n with flash eeprom) h ∙ e flash eeprom
+
+row-computed : (r : Row) → Computes r → Refused r
+row-computed (onCan number sized m f m′) e = can-computed number sized m f m′ e
+row-computed (onUart number sized p m xs b xs′) e = uart-computed number sized p m xs b xs′ m e
+row-computed (onBoth number m f m′) e = (
+  can-computed number true m f m′ (e .0),
+  uart-computed number true CanAndUart m (allButStop f) 0xA5 [] m′ (e .1),
+)
+
+all-computed : (rs : List Row) → AllCompute rs → AllRefused rs
+all-computed [] e = tt
+all-computed (r ∷ rs) e = (row-computed r (e .0), all-computed rs (e .1))
+
 infixr 4 _&_
 _&_ : {A B : Type 0} → A → B → A × B
 a & b = (a, b)
 
--- ---- the table of refusals (specs/Examples.antt)
-
 pub refusals-hold : AllRefused refusals
-unfolding canStep uartStep tidied heldIn decided found handledTypes done ruled heldAfterBad wrappedOf rightlyWrapped
-refusals-hold =
-    refl & refl & refl & refl & refl & refl & refl & refl & (refl, refl) & (refl, refl) & (refl, refl) & (refl, refl) &
-    (refl, refl) & (refl, refl) & refl & refl & refl & refl & refl & refl & refl & refl & refl & refl & refl & refl & refl &
-    refl & (refl, refl) & refl & (refl, refl) & (refl, refl) & (refl, refl) & (refl, refl) & (refl, refl) & (refl, refl) &
-    (refl, refl) & (refl, refl) & (refl, refl) & (refl, refl) & (refl, refl) & (refl, refl) & refl & refl & refl & refl & refl &
-    refl & refl & refl & (refl, refl) & (refl, refl) & (refl, refl) & (refl, refl) & (refl, refl) & (refl, refl) & (refl, refl) &
-    (refl, refl) & (refl, refl) & (refl, refl) & (refl, refl) & (refl, refl) & tt
+unfolding tidied heldIn decided found handledTypes done ruled heldAfterBad wrappedOf rightlyWrapped
+refusals-hold = all-computed refusals (
+    (λ _ _. refl) & (λ _ _. refl) & (λ _ _. refl) & (λ _ _. refl) & (λ _ _. refl) & (λ _ _. refl) & (λ _ _. refl) & (λ _ _. refl) &
+    (λ _ _. refl, λ _ _. refl) & (λ _ _. refl, λ _ _. refl) & (λ _ _. refl, λ _ _. refl) & (λ _ _. refl, λ _ _. refl) &
+    (λ _ _. refl, λ _ _. refl) & (λ _ _. refl, λ _ _. refl) & (λ _ _. refl) & (λ _ _. refl) & (λ _ _. refl) & (λ _ _. refl) &
+    (λ _ _. refl) & (λ _ _. refl) & (λ _ _. refl) & (λ _ _. refl) & (λ _ _. refl) & (λ _ _. refl) & (λ _ _. refl) & (λ _ _. refl) &
+    (λ _ _. refl) & (λ _ _. refl) & (λ _ _. refl, λ _ _. refl) & (λ _ _. refl) & (λ _ _. refl, λ _ _. refl) &
+    (λ _ _. refl, λ _ _. refl) & (λ _ _. refl, λ _ _. refl) & (λ _ _. refl, λ _ _. refl) & (λ _ _. refl, λ _ _. refl) &
+    (λ _ _. refl, λ _ _. refl) & (λ _ _. refl, λ _ _. refl) & (λ _ _. refl, λ _ _. refl) & (λ _ _. refl, λ _ _. refl) &
+    (λ _ _. refl, λ _ _. refl) & (λ _ _. refl, λ _ _. refl) & (λ _ _. refl, λ _ _. refl) & (λ _ _. refl) & (λ _ _. refl) &
+    (λ _ _. refl) & (λ _ _. refl) & (λ _ _. refl) & (λ _ _. refl) & (λ _ _. refl) & (λ _ _. refl) & (λ _ _. refl, λ _ _. refl) &
+    (λ _ _. refl, λ _ _. refl) & (λ _ _. refl, λ _ _. refl) & (λ _ _. refl, λ _ _. refl) & (λ _ _. refl, λ _ _. refl) &
+    (λ _ _. refl, λ _ _. refl) & (λ _ _. refl, λ _ _. refl) & (λ _ _. refl, λ _ _. refl) & (λ _ _. refl, λ _ _. refl) &
+    (λ _ _. refl, λ _ _. refl) & (λ _ _. refl, λ _ _. refl) & (λ _ _. refl, λ _ _. refl) & tt)
 
 -- ---- "two frames, description 0 to 7 then 8 to 15", "wrapped on UART"
 

@@ -1,12 +1,12 @@
--- Computed examples of refusals, for node 05, 0A over blank memories. A row has a number, a node, what is handed to it, and what it is left
+-- Computed examples of refusals, for node 05, 0A over any memories. A row has a number, a node, what is handed to it, and what it is left
 -- as: what it says is an equation of all that a call leaves, the number, no reply, the node, and both memories as they were.
 use Prim.Native.Nat.{ℕ, _%_}
 use mathlib.Core.Path.{_≡_}
-use mathlib.Core.Bool.{false, true}
+use mathlib.Core.Bool.{Bool, false, true}
 use mathlib.Core.List.{List, [], _∷_, _++_}
 use lib.ListN.{take, replicate}
 use Rattle.base.specs.Parts.{sumOf}
-use Rattle.memory_address.specs.Places.{blankFlash, blankEeprom}
+use Rattle.memory_address.specs.Places.{full}
 use Rattle.memory_address.specs.Ranges.{FlashRow, EepromRow, Block}
 use Rattle.memory_address.specs.declared.FlashAddress.{FlashAddress}
 use Rattle.memory_address.specs.declared.EepromPlace.{EepromPlace}
@@ -34,30 +34,31 @@ node050A p m xs =
       mode = m;
     }
 
--- on CAN: the number, a mode, a frame, two memories, the mode afterwards
--- on UART: the number, a pin, a mode, the bytes that are held, a byte, two memories, the bytes that are held afterwards
+-- on CAN: the number, whether both memories have their size, a mode, a frame, the mode afterwards
+-- on UART: the number, whether both memories have their size, a pin, a mode, the bytes that are held, a byte, the bytes held afterwards
 -- on both ports, over full memories: the number, a mode, a frame that comes whole, the mode afterwards
 pub data Row : Type 0 where
-  onCan : ℕ → Mode → List ℕ → List ℕ → List ℕ → Mode → Row
-  onUart : ℕ → Pin → Mode → List ℕ → ℕ → List ℕ → List ℕ → List ℕ → Row
+  onCan : ℕ → Bool → Mode → List ℕ → Mode → Row
+  onUart : ℕ → Bool → Pin → Mode → List ℕ → ℕ → List ℕ → Row
   onBoth : ℕ → Mode → List ℕ → Mode → Row
 
 -- what is held of a frame before its last byte: "0xAA, the 12 bytes, the sum of the 12 modulo 256"
 abbrev pub allButStop : List ℕ → List ℕ
 allButStop f = 0xAA ∷ f ++ (sumOf f % 256 ∷ [])
 
-abbrev pub OnCan : ℕ → Mode → List ℕ → List ℕ → List ℕ → Mode → Type 0
-OnCan number m f fl ee m′ = canStep (node050A CanOnly m []) f fl ee ≡ leaves number 0 (replicate 24 0) (node050A CanOnly m′ []) fl ee
+abbrev pub OnCan : ℕ → Bool → Mode → List ℕ → Mode → Type 0
+OnCan number sized m f m′ = (flash eeprom : List ℕ) → full flash eeprom ≡ sized
+    → canStep (node050A CanOnly m []) f flash eeprom ≡ leaves number 0 (replicate 24 0) (node050A CanOnly m′ []) flash eeprom
 
-abbrev pub OnUart : ℕ → Pin → Mode → List ℕ → ℕ → List ℕ → List ℕ → List ℕ → Mode → Type 0
-OnUart number p m xs b fl ee xs′ m′ = uartStep (node050A p m xs) b fl ee ≡ silent number (node050A p m′ xs′) fl ee
+abbrev pub OnUart : ℕ → Bool → Pin → Mode → List ℕ → ℕ → List ℕ → Mode → Type 0
+OnUart number sized p m xs b xs′ m′ = (flash eeprom : List ℕ) → full flash eeprom ≡ sized
+    → uartStep (node050A p m xs) b flash eeprom ≡ silent number (node050A p m′ xs′) flash eeprom
 
--- what a row says; on UART, where the mode stays, and where a frame comes whole, whose last byte leaves nothing held
+-- what a row says, of any memories; on UART, where the mode stays, and where a frame comes whole, whose last byte leaves nothing held
 abbrev pub Refused : Row → Type 0
-Refused (onCan number m f fl ee m′) = OnCan number m f fl ee m′
-Refused (onUart number p m xs b fl ee xs′) = OnUart number p m xs b fl ee xs′ m
-Refused (onBoth number m f m′) =
-    OnCan number m f blankFlash blankEeprom m′ × OnUart number CanAndUart m (allButStop f) 0xA5 blankFlash blankEeprom [] m′
+Refused (onCan number sized m f m′) = OnCan number sized m f m′
+Refused (onUart number sized p m xs b xs′) = OnUart number sized p m xs b xs′ m
+Refused (onBoth number m f m′) = OnCan number true m f m′ × OnUart number true CanAndUart m (allButStop f) 0xA5 [] m′
 
 abbrev pub AllRefused : List Row → Type 0
 AllRefused [] = Unit {0}
@@ -74,13 +75,6 @@ asking b1 b2 d2 d3 = b1 ∷ b2 ∷ 0xF0 ∷ 0xF0 ∷ eightOf 0xFF 0xFF d2 d3 0xF
 abbrev pub telling : ℕ → ℕ → ℕ → ℕ → ℕ → ℕ → ℕ → ℕ → List ℕ
 telling b1 b2 m g d0 d1 d2 d5 = b1 ∷ b2 ∷ m ∷ g ∷ eightOf d0 d1 d2 0xFF 0xFF d5 0xFF 0xFF
 
--- a number of FLASH, and of EEPROM
-abbrev pub flashPlace : ℕ → Address
-flashPlace a = Flash (record { 0 = a })
-
-abbrev eepromPlace : ℕ → Address
-eepromPlace a = Eeprom (record { 0 = a })
-
 -- 0x040 to node 05, 0A
 abbrev pub dataFrame : List ℕ
 dataFrame = telling 0x04 0x00 0x05 0x0A 0x00 0x00 0x00 0x00
@@ -90,15 +84,15 @@ abbrev pub refusals : List Row
 refusals =
     -- EACH NUMBER BUT 0, on each port where it can be
     -- memories of another length; the pin says CAN only; waiting for restart
-    onCan 1 (Normal false) (asking 0x10 0x40 0x05 0x0A) [] [] (Normal false) ∷
-    onUart 1 CanAndUart (Normal false) [] 0xAA [] [] [] ∷
-    onUart 2 CanOnly (Normal false) [] 0xAA blankFlash blankEeprom [] ∷
-    onCan 3 Waiting (asking 0x10 0x40 0x05 0x0A) blankFlash blankEeprom Waiting ∷
-    onUart 3 CanAndUart Waiting [] 0xAA blankFlash blankEeprom [] ∷
+    onCan 1 false (Normal false) (asking 0x10 0x40 0x05 0x0A) (Normal false) ∷
+    onUart 1 false CanAndUart (Normal false) [] 0xAA [] ∷
+    onUart 2 true CanOnly (Normal false) [] 0xAA [] ∷
+    onCan 3 true Waiting (asking 0x10 0x40 0x05 0x0A) Waiting ∷
+    onUart 3 true CanAndUart Waiting [] 0xAA [] ∷
     -- a byte that is skipped, and one that is held; a wrong stop
-    onUart 10 CanAndUart (Normal false) [] 0x00 blankFlash blankEeprom [] ∷
-    onUart 10 CanAndUart (Normal false) [] 0xAA blankFlash blankEeprom (0xAA ∷ []) ∷
-    onUart 11 CanAndUart (Normal false) (allButStop (asking 0x10 0x40 0x05 0x0A)) 0xA6 blankFlash blankEeprom [] ∷
+    onUart 10 true CanAndUart (Normal false) [] 0x00 [] ∷
+    onUart 10 true CanAndUart (Normal false) [] 0xAA (0xAA ∷ []) ∷
+    onUart 11 true CanAndUart (Normal false) (allButStop (asking 0x10 0x40 0x05 0x0A)) 0xA6 [] ∷
     -- an upper flag, a response, another type, another node
     onBoth 4 (Normal false) (asking 0x10 0x42 0x05 0x0A) (Normal false) ∷
     onBoth 5 (Normal false) (asking 0x10 0x41 0x05 0x0A) (Normal false) ∷
@@ -109,29 +103,29 @@ refusals =
     onBoth 9 (Programming Nothing) dataFrame (Programming Nothing) ∷
     -- TWO FAULTS AT ONCE, "Checked in this order"
     -- 1 before 2: memories of another length, and the pin says CAN only
-    onUart 1 CanOnly (Normal false) [] 0xAA [] [] [] ∷
+    onUart 1 false CanOnly (Normal false) [] 0xAA [] ∷
     -- 1 before 3: EEPROM of another length, and error mode; FLASH of another length, and waiting for restart
-    onCan 1 Error (asking 0x10 0x40 0x05 0x0A) blankFlash [] Error ∷
-    onCan 1 Waiting (asking 0x10 0x40 0x05 0x0A) [] blankEeprom Waiting ∷
-    onUart 1 CanAndUart Error [] 0xAA blankFlash [] [] ∷
-    onUart 1 CanAndUart Waiting (0xAA ∷ []) 0x10 [] blankEeprom (0xAA ∷ []) ∷
+    onCan 1 false Error (asking 0x10 0x40 0x05 0x0A) Error ∷
+    onCan 1 false Waiting (asking 0x10 0x40 0x05 0x0A) Waiting ∷
+    onUart 1 false CanAndUart Error [] 0xAA [] ∷
+    onUart 1 false CanAndUart Waiting (0xAA ∷ []) 0x10 (0xAA ∷ []) ∷
     -- 2 before 3: the pin says CAN only, and waiting for restart, or error mode
-    onUart 2 CanOnly Waiting [] 0xAA blankFlash blankEeprom [] ∷
-    onUart 2 CanOnly Error (0xAA ∷ []) 0x10 blankFlash blankEeprom (0xAA ∷ []) ∷
+    onUart 2 true CanOnly Waiting [] 0xAA [] ∷
+    onUart 2 true CanOnly Error (0xAA ∷ []) 0x10 (0xAA ∷ []) ∷
     -- 3 before 4: a deaf mode, and an upper flag
-    onCan 3 Error (asking 0x10 0x42 0x05 0x0A) blankFlash blankEeprom Error ∷
-    onCan 3 Waiting (asking 0x10 0x42 0x05 0x0A) blankFlash blankEeprom Waiting ∷
+    onCan 3 true Error (asking 0x10 0x42 0x05 0x0A) Error ∷
+    onCan 3 true Waiting (asking 0x10 0x42 0x05 0x0A) Waiting ∷
     -- 3 before 10: a deaf mode, and a byte that completes nothing
-    onUart 3 CanAndUart Error [] 0xAA blankFlash blankEeprom [] ∷
-    onUart 3 CanAndUart Waiting (0xAA ∷ []) 0x10 blankFlash blankEeprom (0xAA ∷ []) ∷
+    onUart 3 true CanAndUart Error [] 0xAA [] ∷
+    onUart 3 true CanAndUart Waiting (0xAA ∷ []) 0x10 (0xAA ∷ []) ∷
     -- 3 before 11: error mode, and a wrong stop
-    onUart 3 CanAndUart Error (allButStop (asking 0x10 0x40 0x05 0x0A)) 0xA6 blankFlash blankEeprom (allButStop (asking 0x10 0x40 0x05 0x0A)) ∷
+    onUart 3 true CanAndUart Error (allButStop (asking 0x10 0x40 0x05 0x0A)) 0xA6 (allButStop (asking 0x10 0x40 0x05 0x0A)) ∷
     -- 11 before 4: a wrong stop, or a wrong sum, and an upper flag
-    onUart 11 CanAndUart (Normal false) (allButStop (asking 0x10 0x42 0x05 0x0A)) 0xA6 blankFlash blankEeprom [] ∷
-    onUart 11 CanAndUart (Normal false) (0xAA ∷ asking 0x10 0x42 0x05 0x0A ++ (0x00 ∷ [])) 0xA5 blankFlash blankEeprom [] ∷
+    onUart 11 true CanAndUart (Normal false) (allButStop (asking 0x10 0x42 0x05 0x0A)) 0xA6 [] ∷
+    onUart 11 true CanAndUart (Normal false) (0xAA ∷ asking 0x10 0x42 0x05 0x0A ++ (0x00 ∷ [])) 0xA5 [] ∷
     -- 4 before 5: an upper flag, and the response flag; a frame of two bytes with the response flag
     onBoth 4 (Normal false) (asking 0x10 0x43 0x05 0x0A) (Normal false) ∷
-    onCan 4 writing (0x04 ∷ 0x01 ∷ []) blankFlash blankEeprom writing ∷
+    onCan 4 true writing (0x04 ∷ 0x01 ∷ []) writing ∷
     -- 5 before 6: a response of no handled type, and of a type of the other mode
     onBoth 5 (Normal false) (asking 0x10 0x71 0x05 0x0A) (Normal false) ∷
     onBoth 5 writing (asking 0x10 0x41 0x05 0x0A) writing ∷
@@ -151,15 +145,15 @@ refusals =
     onBoth 4 writing (telling 0x04 0x04 0x05 0x0A 0x00 0x00 0x00 0x00) writing ∷
     onBoth 4 writing (telling 0x04 0x08 0x05 0x0A 0x00 0x00 0x00 0x00) writing ∷
     -- no bytes, 11 and 13
-    onCan 4 writing [] blankFlash blankEeprom writing ∷
-    onCan 4 writing (take 11 dataFrame) blankFlash blankEeprom writing ∷
-    onCan 4 writing (dataFrame ++ (0x00 ∷ [])) blankFlash blankEeprom writing ∷
+    onCan 4 true writing [] writing ∷
+    onCan 4 true writing (take 11 dataFrame) writing ∷
+    onCan 4 true writing (dataFrame ++ (0x00 ∷ [])) writing ∷
     -- error mode and waiting for restart, also where a wrapped frame's last byte comes
-    onCan 3 Error (asking 0x10 0x40 0x05 0x0A) blankFlash blankEeprom Error ∷
-    onCan 3 Error dataFrame blankFlash blankEeprom Error ∷
-    onCan 3 Waiting dataFrame blankFlash blankEeprom Waiting ∷
-    onUart 3 CanAndUart Error (allButStop dataFrame) 0xA5 blankFlash blankEeprom (allButStop dataFrame) ∷
-    onUart 3 CanAndUart Waiting (allButStop dataFrame) 0xA5 blankFlash blankEeprom (allButStop dataFrame) ∷
+    onCan 3 true Error (asking 0x10 0x40 0x05 0x0A) Error ∷
+    onCan 3 true Error dataFrame Error ∷
+    onCan 3 true Waiting dataFrame Waiting ∷
+    onUart 3 true CanAndUart Error (allButStop dataFrame) 0xA5 (allButStop dataFrame) ∷
+    onUart 3 true CanAndUart Waiting (allButStop dataFrame) 0xA5 (allButStop dataFrame) ∷
     -- "A staged command that isn't legal counts as none"
     onBoth 9 (Programming (Read (Flash (record { 0 = 0x000FF8 })))) dataFrame (Programming Nothing) ∷
     onBoth 9 (Programming (Read (Flash (record { 0 = 0x001004 })))) dataFrame (Programming Nothing) ∷
