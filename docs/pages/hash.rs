@@ -1,9 +1,14 @@
 //! SHA-256 (FIPS 180-4), as `sha256sum` prints it.
 
+use std::sync::OnceLock;
+
+static KEYS: OnceLock<Vec<u32>> = OnceLock::new();
+static START: OnceLock<Vec<u32>> = OnceLock::new();
+
 /// The hash of some bytes, as 64 hexadecimal digits.
 pub fn sha256(bytes: &[u8]) -> String {
-    let keys = roots(64, 3);
-    let mut state: Vec<u32> = roots(8, 2);
+    let keys = KEYS.get_or_init(|| roots(64, 3));
+    let mut state = START.get_or_init(|| roots(8, 2)).clone();
     let mut message = bytes.to_vec();
     message.push(0x80);
     while message.len() % 64 != 56 {

@@ -1,5 +1,5 @@
 //! Prints the pages of docs/ that are made from the sources, and checks those that quote them. Run from the project's root:
-//!   pages statements | believed | outside | index
+//!   pages statements | believed | outside | index [FOLDER OF THE SOURCE DOCUMENTS]
 
 mod answers;
 mod antt;
@@ -7,6 +7,7 @@ mod believed;
 mod closure;
 mod code;
 mod hash;
+mod index;
 mod legend;
 mod names;
 mod prose;
@@ -18,23 +19,33 @@ mod words;
 use std::path::Path;
 use std::process::ExitCode;
 
-fn run(command: &str) -> Result<String, String> {
+/// The text of a page.
+fn page(name: &str) -> Result<String, String> {
+    std::fs::read_to_string(name).map_err(|e| format!("{name}: {e}"))
+}
+
+fn run(command: &str, documents: &str) -> Result<String, String> {
     let root = Path::new(".");
     let repo = repo::Repo::read(root)?;
-    let text =
-        std::fs::read_to_string("docs/ANSWERS.md").map_err(|e| format!("docs/ANSWERS.md: {e}"))?;
+    if command == "index" {
+        let (index, sources) = (page("docs/INDEX.md")?, page("docs/SOURCES.md")?);
+        let checked = index::check(&repo, root, &index, &sources, Path::new(documents));
+        return checked.map_err(|faults| faults.join("\n"));
+    }
+    let text = page("docs/ANSWERS.md")?;
     let cited = answers::read(&repo, root, &text).map_err(|faults| faults.join("\n"))?;
     match command {
         "statements" => statements::page(&repo, &cited),
         "believed" => believed::page(&repo, &cited),
         "outside" => believed::outside(&repo, &cited),
-        _ => Err("pages statements | believed | outside | index".into()),
+        _ => Err("pages statements | believed | outside | index [FOLDER]".into()),
     }
 }
 
 fn main() -> ExitCode {
     let command = std::env::args().nth(1).unwrap_or_default();
-    match run(&command) {
+    let documents = std::env::args().nth(2).unwrap_or("../shared/documents".into());
+    match run(&command, &documents) {
         Ok(page) => {
             print!("{page}");
             ExitCode::SUCCESS

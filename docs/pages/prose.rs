@@ -65,15 +65,18 @@ pub fn parts(text: &str) -> Vec<Part> {
     found
 }
 
-/// The cells of a table's row; a `|` between backticks is none of its borders.
+/// The cells of a table's row; a `|` between backticks or behind `\\` is none of its borders.
 fn cells(line: &str) -> Vec<String> {
     let mut found = vec![String::new()];
     let mut quoted = false;
+    let mut before = ' ';
     for c in line.trim().chars() {
         if c == '`' {
             quoted = !quoted;
         }
-        if c == '|' && !quoted {
+        let border = c == '|' && !quoted && before != '\\';
+        before = c;
+        if border {
             found.push(String::new());
         } else if let Some(last) = found.last_mut() {
             last.push(c);

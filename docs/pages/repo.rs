@@ -2,7 +2,7 @@
 
 use crate::antt::{self, Kind};
 use crate::code;
-use std::collections::BTreeMap;
+use std::collections::{BTreeMap, BTreeSet};
 use std::fs;
 use std::path::Path;
 
@@ -24,6 +24,7 @@ pub struct Repo {
     pub code: BTreeMap<String, code::File>,
     /// the text of each of both
     pub texts: BTreeMap<String, String>,
+    pub crates: BTreeSet<String>,
 }
 
 /// What stands behind a path without a name: a file of definitions, or a thing.
@@ -64,6 +65,7 @@ impl Repo {
         } else {
             return;
         }
+        self.crates.insert(name.split('/').next().unwrap_or("").to_string());
         self.texts.insert(name, text);
     }
 
@@ -109,7 +111,7 @@ impl Repo {
         let Some(own) = path.strip_prefix("Rattle·") else { return Ok(None) };
         let parts: Vec<&str> = own.split('.').collect();
         let krate = parts[0].split('·').next().unwrap_or("");
-        if !self.texts.keys().any(|f| f.starts_with(&format!("{krate}/"))) {
+        if !self.crates.contains(krate) {
             return Ok(None);
         }
         let inside = &parts[1..];
@@ -164,7 +166,7 @@ impl Repo {
         if way[0] == "crate" {
             return self.coded(krate, &way[1..]);
         }
-        if self.texts.keys().any(|f| f.starts_with(&format!("{}/", way[0]))) {
+        if self.crates.contains(way[0]) {
             return self.coded(way[0], &way[1..]);
         }
         self.coded(krate, &way)

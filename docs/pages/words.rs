@@ -18,16 +18,14 @@ pub struct Known {
 
 impl Known {
     pub fn of(repo: &Repo) -> Known {
-        let mut names = BTreeSet::new();
-        for (file, parsed) in &repo.antt {
-            names.insert(file.split('/').next().unwrap_or("").to_string());
+        let mut names = repo.crates.clone();
+        for parsed in repo.antt.values() {
             for d in &parsed.declarations {
                 names.insert(d.name.clone());
                 names.extend(d.parts.iter().cloned());
             }
         }
-        for (file, parsed) in &repo.code {
-            names.insert(file.split('/').next().unwrap_or("").to_string());
+        for parsed in repo.code.values() {
             for item in &parsed.items {
                 names.insert(item.name.clone());
                 names.extend(item.parts.iter().cloned());
