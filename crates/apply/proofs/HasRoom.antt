@@ -15,6 +15,7 @@ use Rattle.recipe.specs.Frames.{frameCount}
 use Rattle.recipe.specs.Reading.{Stop, atEnd, fault, readFrom, reading, recipeOf}
 use Rattle.recipe.specs.Translation.{answerAt, unlessShort, checked, translated}
 use Rattle.update_deliver.specs.Delivering.{Left, roomFor, deliverBy, deliverStep}
+use Rattle.update_deliver.proofs.Outcome.{accepted-fits}
 use Rattle.update_deliver.proofs.Calls.{Deliver, deliver-said}
 use Rattle.apply.proofs.FewFrames.{frames-few}
 use Rattle.apply.proofs.FewItems.{stops-few}
@@ -47,17 +48,29 @@ answer-left : (t : Translated) (recipe : List ℕ) (n : Node) (flash eeprom fram
 answer-left (Refused number place) recipe n flash eeprom frames answers = refl
 answer-left (Frames count) recipe n flash eeprom frames answers = refl
 
--- A call of `deliver` with the program's room, whatever the node and the memories: a file of at most 4,096 bytes that is refused is refused
--- with 20 to 24.
-module _ {recipe flash eeprom frames answers : List ℕ} {n : Node} {l : Left} (delivers : Deliver recipe n flash eeprom frames answers l)
-    (file : length recipe ≤ 4096) (framesLent : length frames ≡ 12996) (answersLent : length answers ≡ 15162) where
+-- whatever `deliver` leaves by its definition, in the program's room
+module _ (recipe : List ℕ) (n : Node) (flash eeprom frames answers : List ℕ) (framesLent : length frames ≡ 12996)
+    (answersLent : length answers ≡ 15162) {l : Left} (said : l ≡ deliverStep recipe n flash eeprom frames answers) where
   answered : l .result .translated ≡ translated recipe 12996
   unfolding deliverStep roomFor
   answered =
-      ap (λ (x : Left). x .result .translated) (deliver-said delivers)
+      ap (λ (x : Left). x .result .translated) said
       ∙ answer-left (translated recipe (roomFor (length frames) (length answers))) recipe n flash eeprom frames answers
       ∙ ap (λ (k : ℕ). translated recipe (roomFor k (length answers))) framesLent
       ∙ ap (λ (k : ℕ). translated recipe (roomFor 12996 k)) answersLent
 
-  pub apply-has-room : (number place : ℕ) → l .result .translated ≡ Refused number place → (20 ≤ number) × (number ≤ 24)
-  apply-has-room number place e = refused-few recipe number place file (sym answered ∙ e)
+  -- a file of at most 4,096 bytes that is refused is refused with 20 to 24
+  pub step-has-room : length recipe ≤ 4096 → (number place : ℕ) → l .result .translated ≡ Refused number place
+      → (20 ≤ number) × (number ≤ 24)
+  step-has-room file number place e = refused-few recipe number place file (sym answered ∙ e)
+
+  -- and of one that is accepted all answers are told, 14 bytes each
+  pub step-tells-all : (count : ℕ) → l .result .translated ≡ Frames count → 14 * count ≤ 15162
+  step-tells-all count e = omega (arith, accepted-fits recipe 12996 count (sym answered ∙ e))
+
+-- the same of a call of `deliver`, whatever the node and the memories
+pub apply-has-room : {recipe flash eeprom frames answers : List ℕ} {n : Node} {l : Left} → Deliver recipe n flash eeprom frames answers l
+    → length recipe ≤ 4096 → length frames ≡ 12996 → length answers ≡ 15162
+    → (number place : ℕ) → l .result .translated ≡ Refused number place → (20 ≤ number) × (number ≤ 24)
+apply-has-room {recipe} {flash} {eeprom} {frames} {answers} {n} delivers file framesLent answersLent =
+    step-has-room recipe n flash eeprom frames answers framesLent answersLent (deliver-said delivers) file
