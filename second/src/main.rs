@@ -1,6 +1,7 @@
 //! The second program: a HAPCAN bootloader written from the documents alone, to be compared with
 //! the proved one. See README.md and PROTOCOL.md.
 
+mod apply_file;
 mod apply_recipes;
 mod coverage;
 mod coverage_rows;
@@ -16,6 +17,7 @@ mod numbers;
 mod random;
 mod recipe;
 mod recipe_coverage;
+mod recipe_files;
 mod recipe_stream;
 mod recipes;
 #[cfg(test)]
@@ -32,7 +34,9 @@ second coverage < stream
 second explain N < stream
 second recipes SEED COUNT > stream
 second apply-recipes < stream
-second recipe-coverage < stream";
+second recipe-coverage < stream
+second apply FILE
+second recipe-files SEED COUNT DIR";
 
 /// All of standard input.
 fn input() -> io::Result<Vec<u8>> {
@@ -69,6 +73,13 @@ fn run(arguments: &[&str], out: &mut impl Write) -> io::Result<Option<String>> {
             recipes::recipes(number(seed)?, number(count)? as usize, out).map(|_| None)
         }
         ["apply-recipes"] => apply_recipes::apply_recipes(&input()?, out),
+        ["apply", file] => {
+            out.write_all(apply_file::printed(&std::fs::read(file)?).as_bytes()).map(|_| None)
+        }
+        ["recipe-files", seed, count, folder] => {
+            let (seed, count) = (number(seed)?, number(count)? as usize);
+            recipe_files::recipe_files(seed, count, folder).map(|_| None)
+        }
         ["recipe-coverage"] => Ok(complaint(recipe_coverage::recipe_coverage(&input()?, out)?)),
         _ => Ok(Some(USAGE.to_string())),
     }

@@ -1,1 +1,4 @@
 pub mod Blank
+pub mod FewFrames
+pub mod FewItems
+pub mod HasRoom

@@ -1,5 +1,6 @@
-// The recipe's bytes, from the file that the first argument names or from standard input. What can't be read gets a message on standard
-// error.
+// The recipe's bytes, from the file that the one argument names, or from standard input where it is `-`. What can't be read, and any other
+// arguments, get a message on standard error.
+use libc::STDERR_FILENO;
 use libc::STDIN_FILENO;
 
 // What reading comes to: how many bytes stand at the start of the lent ones, or nothing where they can't be read.
@@ -37,28 +38,45 @@ fn read_named(fd: i32, name: &[u8], buf: &mut [u8]) -> Input {
     }
 }
 
-// The same of the file that the first argument names, with a message where it can't be opened.
-fn read_file(buf: &mut [u8]) -> Input {
-    let mut path = io::buffer();
-    let n = os::arg(1, &mut path);
-    if os::errno() != 0 {
-        os::fail(b"path");
-        return Input::Unread;
-    }
-    let fd = os::open_read(&path[..n]);
+// The same of the file of this name, with a message where it can't be opened.
+fn read_file(name: &[u8], buf: &mut [u8]) -> Input {
+    let fd = os::open_read(name);
     if fd < 0 {
-        os::fail(&path[..n]);
+        os::fail(name);
         return Input::Unread;
     }
-    let input = read_named(fd, &path[..n], buf);
+    let input = read_named(fd, name, buf);
     libc::close(fd);
     input
 }
 
-// Reads as much of the recipe as buf holds.
-pub fn read_recipe(buf: &mut [u8]) -> Input {
-    if os::arg_count() < 2 {
-        return read_named(STDIN_FILENO, b"standard input", buf);
+// Says how the program is called.
+fn usage() -> Input {
+    io::write_all(STDERR_FILENO, b"usage: apply FILE (- is standard input)\n");
+    Input::Unread
+}
+
+// Reads what an argument names: `-` is standard input, and what else starts with it, as `--help`, names nothing.
+fn read_argument(name: &[u8], buf: &mut [u8]) -> Input {
+    if base::byte_at(name, 0) != b'-' {
+        return read_file(name, buf);
     }
-    read_file(buf)
+    if name.len() > 1 {
+        return usage();
+    }
+    read_named(STDIN_FILENO, b"standard input", buf)
+}
+
+// Reads as much of the recipe as buf holds, from what the one argument names.
+pub fn read_recipe(buf: &mut [u8]) -> Input {
+    if os::arg_count() != 2 {
+        return usage();
+    }
+    let mut name = io::buffer();
+    let n = os::arg(1, &mut name);
+    if os::errno() != 0 {
+        os::fail(b"the file's name");
+        return Input::Unread;
+    }
+    read_argument(&name[..n], buf)
 }

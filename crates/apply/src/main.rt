@@ -1,12 +1,13 @@
 // Applies a recipe file to a blank node and prints a line for each frame: the number, then the reply (document 01, "What we cook"). The
-// file is the one that the first argument names, or standard input where there is none. Reading is in input, printing in output; what
-// is done is proved in the crates below.
+// file is the one that the argument names, or standard input where that is `-`. Reading is in input, printing in output; what is done is
+// proved in the crates below.
 mod input;
 mod output;
 
 ghost use mathlib.Core.Path.{_≡_};
 ghost use mathlib.Core.Bool.{true};
-ghost use lib.ListN.{replicate};
+ghost use Prim.Native.Nat.{_≤_};
+ghost use lib.ListN.{length, replicate};
 ghost use Rattle.node_rules.specs.declared.Pin.the-variants.{CanOnly};
 ghost use Rattle.node_rules.specs.Record.{plain, freshNode};
 ghost use Rattle.node_rules.specs.Restart.{restartStep};
@@ -39,7 +40,9 @@ fn restarted(flash: &[u8], eeprom: &[u8]) -> Node
 }
 
 // Applies the recipe to a blank node, whose cells are all 0xFF, and prints the answers or the refusal.
-fn apply(recipe: &[u8]) {
+fn apply(recipe: &[u8])
+    requires { ⌜ length (now recipe) ≤ 4096 ⌝ }
+{
     let mut flash = [255u8; 65536];
     let mut eeprom = [255u8; 1024];
     let blank = restarted(&flash, &eeprom);

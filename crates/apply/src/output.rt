@@ -1,4 +1,6 @@
 // What is printed, on standard output. Where a write fails the rest is left out, with a message on standard error.
+ghost use Prim.Native.Nat.{_*_, _≤_};
+ghost use lib.ListN.{length};
 use libc::STDOUT_FILENO;
 
 // The upper-case digit of b's lower four bits.
@@ -40,14 +42,13 @@ fn print_line(told: &[u8]) -> bool {
     io::write_all(STDOUT_FILENO, b"\n")
 }
 
-// Prints a line for each of the first `count` frames, as far as 14 bytes are told of each.
-fn print_lines(answers: &[u8], count: usize) -> bool {
+// Prints a line for each of the first `count` frames; 14 bytes are told of each.
+fn print_lines(answers: &[u8], count: usize) -> bool
+    requires { ⌜ 14 * count ≤ length (now answers) ⌝ }
+{
     let mut at: usize = 0;
     let mut left = count;
     while left > 0 {
-        if answers.len() - at < 14 {
-            return true;
-        }
         if !print_line(&answers[at..at + 14]) {
             return false;
         }
@@ -78,13 +79,17 @@ fn say(written: bool) {
     }
 }
 
-// Prints the answers to `count` frames.
-pub fn print_answers(answers: &[u8], count: usize) {
+// Prints the answers to `count` frames, all of which are told.
+pub fn print_answers(answers: &[u8], count: usize)
+    requires { ⌜ 14 * count ≤ length (now answers) ⌝ }
+{
     say(print_lines(answers, count));
 }
 
-// Prints a refusal.
-pub fn print_refusal(number: u8, place: usize) {
+// Prints a refusal of the recipe. There are 20 to 24: no file is long enough for 25, and the room does.
+pub fn print_refusal(number: u8, place: usize)
+    requires { ⌜ (20 ≤ number) × (number ≤ 24) ⌝ }
+{
     say(print_numbers(number, place));
 }
 

@@ -18,7 +18,7 @@ slice-aggregate-apply : tie.Need-slice-aggregate-apply
 slice-aggregate-apply c = simp length-take (omega arith)
 
 apply-requires : tie.Need-apply-requires
-apply-requires c κs = search needs
+apply-requires c κs = simp length-take (omega arith)
 
 returns-2 : tie.Need-returns-2
 returns-2 c = search needs

@@ -1,24 +1,19 @@
--- `apply::output::print_lines` is safe and ends: `at` never passes the end, and each turn leaves a frame fewer. Assumes nothing.
-use Prim.Native.Nat.{_≤_}
+-- `apply::output::print_lines` is safe and ends: 14 bytes stand there for each frame that is left, and each turn leaves a frame fewer.
+-- Assumes nothing.
+use Prim.Native.Nat.{_+_, _*_, _≤_}
 use lib.ListN.{length}
 use borrow.Author.Needs.{needs}
 use Rattle.apply.proofs.output.print_lines.Statement.{statement}
 use Rattle.apply.proofs.output.print_lines.Tie as tie
 
 abbrev Inv-loop : tie.InvT-loop
-Inv-loop answers count at₀ left₀ at left = at ≤ length answers
+Inv-loop answers count at₀ left₀ at left = at + 14 * left ≤ length answers
 
 abbrev μ-loop : tie.MeasureT-loop
 μ-loop answers count at₀ left₀ at left = left
 
 loop-holds : tie.Need-loop-holds Inv-loop μ-loop
 loop-holds c = search needs
-
-sub-if1 : tie.Need-sub-if1 Inv-loop μ-loop
-sub-if1 c = search needs
-
-returns : tie.Need-returns Inv-loop μ-loop
-returns c = search needs
 
 add-print-line : tie.Need-add-print-line Inv-loop μ-loop
 add-print-line c = search needs
@@ -35,8 +30,8 @@ part-print-line-end c = search needs
 print-line-requires : tie.Need-print-line-requires Inv-loop μ-loop
 print-line-requires c κs = search needs
 
-returns-2 : tie.Need-returns-2 Inv-loop μ-loop
-returns-2 c = search needs
+returns : tie.Need-returns Inv-loop μ-loop
+returns c = search needs
 
 add-at : tie.Need-add-at Inv-loop μ-loop
 add-at c = search needs
@@ -50,8 +45,8 @@ loop-less c = search needs
 loop-again : tie.Need-loop-again Inv-loop μ-loop
 loop-again c = search needs
 
-returns-3 : tie.Need-returns-3 Inv-loop μ-loop
-returns-3 c = search needs
+returns-2 : tie.Need-returns-2 Inv-loop μ-loop
+returns-2 c = search needs
 
 pub print-lines-spec : {M : Type 1} → statement M
 print-lines-spec =
@@ -60,16 +55,14 @@ print-lines-spec =
     Inv-loop
     μ-loop
     loop-holds
-    sub-if1
-    returns
     add-print-line
     sub-print-line
     part-print-line-start
     part-print-line-end
     print-line-requires
-    returns-2
+    returns
     add-at
     sub-left
     loop-less
     loop-again
-    returns-3)
+    returns-2)
