@@ -88,3 +88,12 @@ pub data OneCall : List ℕ → List ℕ → List ℕ → List ℕ → Type 1 wh
       → OneCall flash eeprom flash′ eeprom′
   heard : {n : Node} {b : ℕ} {flash eeprom flash′ eeprom′ : List ℕ} {r : UartAnswer} → UartByte n b flash eeprom r flash′ eeprom′
       → OneCall flash eeprom flash′ eeprom′
+
+-- ---- frames and bytes in any order, each to the node and the memories that the one before left: what stands before and after
+pub data NoRestart : Node → List ℕ → List ℕ → Node → List ℕ → List ℕ → Type 1 where
+  none : {n : Node} {flash eeprom : List ℕ} → NoRestart n flash eeprom n flash eeprom
+  framed : {n n′ : Node} {f flash eeprom flash₁ eeprom₁ flash′ eeprom′ : List ℕ} {r : Answer} → CanFrame n f flash eeprom r flash₁ eeprom₁
+      → NoRestart (r .node) flash₁ eeprom₁ n′ flash′ eeprom′ → NoRestart n flash eeprom n′ flash′ eeprom′
+  heard : {n n′ : Node} {b : ℕ} {flash eeprom flash₁ eeprom₁ flash′ eeprom′ : List ℕ} {r : UartAnswer}
+      → UartByte n b flash eeprom r flash₁ eeprom₁ → NoRestart (r .node) flash₁ eeprom₁ n′ flash′ eeprom′
+      → NoRestart n flash eeprom n′ flash′ eeprom′

@@ -3,6 +3,7 @@ pub mod TidiedOnce
 pub mod Deciding
 pub mod Numbers
 pub mod Spoiling
+pub mod Staying
 pub mod Modes
 pub mod StaysTidy
 pub mod ForOthers

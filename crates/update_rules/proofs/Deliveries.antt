@@ -7,15 +7,10 @@ use mathlib.Core.List.{List, [], _∷_, _++_}
 use Prim.Native.Nat.{ℕ, suc}
 use lib.ListN.{length, getD, take, drop}
 use lib.Seq.{take-at, drop-at}
-use Rattle.node_rules.specs.declared.Node.{Node}
-use Rattle.node_rules.specs.declared.Next.{Next}
-use Rattle.node_rules.specs.declared.Next.the-variants.{Stays, Programs, Waits}
-use Rattle.node_rules.specs.Record.{tidied}
-use Rattle.node_rules.specs.Outcomes.{decided}
-use Rattle.node_rules.specs.Step.{Step, nodeAfter, done, canStep}
+use Rattle.node_rules.specs.Step.{Step, canStep}
 use Rattle.node_rules.specs.Runs.{State, state, behindFrame}
 use Rattle.node_rules.proofs.Spoiling.{can-lengths, can-protected}
-use Rattle.memory_address.specs.Places.{full}
+use Rattle.node_rules.proofs.Staying.{can-stays}
 use Rattle.memory_address.specs.Rule.{protected}
 use Rattle.update_rules.specs.Delivery.{told, Delivery, delivery, behindFrames, delivered, Delivers, behind}
 
@@ -106,24 +101,13 @@ parted fs gs a c xs p =
 
 -- ---- what no frame changes
 
-plate-after : (x : Next) (n : Node) → nodeAfter x n .plate ≡ n .plate
-plate-after Stays n = refl
-plate-after (Programs s) n = refl
-plate-after Waits n = refl
-
-choices-after : (x : Next) (n : Node) → nodeAfter x n .choices ≡ n .choices
-choices-after Stays n = refl
-choices-after (Programs s) n = refl
-choices-after Waits n = refl
-
 pub frame-keeps : (s : State) (f : List ℕ) → Lasting s (behindFrame (stepAt s f))
-unfolding canStep done tidied
 frame-keeps s f =
-    let next = decided (tidied (s .node)) (full (s .flash) (s .eeprom)) f .next in
+    let same = can-stays (s .node) f (s .flash) (s .eeprom) in
     let lengths = can-lengths (s .node) f (s .flash) (s .eeprom) in
     record {
-      samePlate = plate-after next (tidied (s .node));
-      sameChoices = choices-after next (tidied (s .node));
+      samePlate = same .0;
+      sameChoices = same .1;
       flashLength = lengths .0;
       eepromLength = lengths .1;
     }
