@@ -10,8 +10,8 @@ use lib.ListN.{length, drop}
 use Rattle.recipe.specs.declared.Translated.the-variants.{Frames, Refused}
 use Rattle.recipe.specs.Items.{Recipe, Legal, printed}
 use Rattle.recipe.specs.Frames.{framesOf, joined, frameCount}
-use Rattle.recipe.specs.Reading.{atEnd, behind, readFrom, reading, recipeOf}
-use Rattle.recipe.specs.Translation.{checked, translated, outputAfter}
+use Rattle.recipe.specs.Reading.{atEnd, withItems, readFrom, reading, recipeOf}
+use Rattle.recipe.specs.Translation.{checked, translated, outputBy}
 use Rattle.recipe.proofs.Answers.{with-room, too-short}
 use Rattle.recipe.proofs.Steps.{read-end}
 use Rattle.recipe.proofs.Printing.{read-printed}
@@ -23,8 +23,8 @@ module _ (r : Recipe) (legal : Legal r) where
       let looks : 2047 - length (r .items) ≡ suc (2046 - length (r .items)) = omega (arith, legal .few) in
       ap reading (sym (append-nil (printed r)))
       ∙ read-printed r [] legal
-      ∙ ap (λ (n : ℕ). behind (r .items) (readFrom n [] (length (printed r)) (3 + length (r .items)) true)) looks
-      ∙ ap (behind (r .items)) (read-end (2046 - length (r .items)) [] (length (printed r)) (3 + length (r .items)) true refl)
+      ∙ ap (λ (n : ℕ). withItems (r .items) (readFrom n [] (length (printed r)) (3 + length (r .items)) true)) looks
+      ∙ ap (withItems (r .items)) (read-end (2046 - length (r .items)) [] (length (printed r)) (3 + length (r .items)) true refl)
       ∙ ap (λ (is : List _). record { items = is; stop = atEnd true }) (append-nil (r .items))
 
   -- and as the recipe that it is
@@ -41,7 +41,7 @@ module _ (r : Recipe) (legal : Legal r) where
   accepts-legal = with-room (printed r) (frameCount r) checked-printed
 
   pub output-legal : (output : List ℕ)
-      → outputAfter (Frames (frameCount r)) (printed r) output ≡ joined (framesOf r) ++ drop (12 * frameCount r) output
+      → outputBy (Frames (frameCount r)) (printed r) output ≡ joined (framesOf r) ++ drop (12 * frameCount r) output
   output-legal output = rw recipe-printed
 
   -- where it has not

@@ -18,7 +18,7 @@ use Rattle.base.proofs.Patched.{part-length}
 use Rattle.base.specs.Parts.{part, Bytes}
 use Rattle.recipe.specs.Items.{Item, block, row, Legal, LegalItem, LegalItems, addressBytes, printedItem, printedItems, printed}
 use Rattle.recipe.specs.Faults.{kindOf, known, addressOf, outOfPlace, faultAt}
-use Rattle.recipe.specs.Reading.{Reading, Stop, atEnd, fault, sizeOf, itemsAt, behind, readFrom, reading, recipeOf}
+use Rattle.recipe.specs.Reading.{Reading, Stop, atEnd, fault, sizeOf, itemsAt, withItems, readFrom, reading, recipeOf}
 use Rattle.recipe.specs.declared.Translated.the-variants.{Frames, Refused}
 use Rattle.recipe.specs.Frames.{frameCount}
 use Rattle.recipe.specs.Translation.{answerAt, unlessShort, checked, translated}
@@ -67,7 +67,7 @@ Printed input number r =
 
 -- an item printed in front of what is printed
 in-front : (i : Item) (input rest : List ℕ) (number : ℕ) (r : Reading) → input ≡ printedItem i ++ rest → LegalItem i
-    → Printed rest (number + 1) r → Printed input number (behind (i ∷ []) r)
+    → Printed rest (number + 1) r → Printed input number (withItems (i ∷ []) r)
 unfolding printedItems
 in-front i input rest number r e l p s =
     let q = p s in (
@@ -106,7 +106,7 @@ module _ (looks : ℕ)
       k < 256
       → Faultless (k ∷ xs) number false
       → Printed (k ∷ xs) number
-      (behind (itemsAt (k ∷ xs))
+      (withItems (itemsAt (k ∷ xs))
       (readFrom looks (drop (sizeOf (k ∷ xs)) (k ∷ xs)) (place + sizeOf (k ∷ xs)) (number + 1) (eqb k 0x0F)))
 
   on-open : Claim 0x01

@@ -12,7 +12,7 @@ use lib.Seq.{take-at, drop-at}
 use borrow.Author.Tests.{ne-eqb}
 use Rattle.recipe.specs.Items.{Item, block, row, Recipe, Legal, LegalItem, LegalItems, addressBytes, printedItem, printedItems, printed}
 use Rattle.recipe.specs.Faults.{addressOf}
-use Rattle.recipe.specs.Reading.{Reading, behind, readFrom, reading}
+use Rattle.recipe.specs.Reading.{Reading, withItems, readFrom, reading}
 use Rattle.recipe.proofs.Inside.{address-24}
 use Rattle.recipe.proofs.Order.{no-fault}
 use Rattle.recipe.proofs.Steps.{read-on}
@@ -41,7 +41,7 @@ module _ (looks place number : ℕ) (rest : List ℕ) where
 
     pub read-item : (i : Item) → LegalItem i
         → readFrom (suc looks) (printedItem i ++ rest) place number false
-        ≡ behind (i ∷ []) (readFrom looks rest (place + length (printedItem i)) (number + 1) false)
+        ≡ withItems (i ∷ []) (readFrom looks rest (place + length (printedItem i)) (number + 1) false)
     read-item (block a d) h =
         let input = printedItem (block a d) ++ rest in
         let same : addressOf input ≡ a = address-back a (d ++ rest) 0x02 (address-24 (block a d) h) in
@@ -69,14 +69,14 @@ module _ (looks place number : ℕ) (rest : List ℕ) where
         }))
         ∙ rw (same, take-at d rest 8 (h .1), drop-at d rest 8 (h .1), h .1)
 
-behind-behind : (i : Item) (is : List Item) (r : Reading) → behind (i ∷ []) (behind is r) ≡ behind (i ∷ is) r
+behind-behind : (i : Item) (is : List Item) (r : Reading) → withItems (i ∷ []) (withItems is r) ≡ withItems (i ∷ is) r
 behind-behind i is r = refl
 
 -- legal items are read one by one, and then what stands behind them
 pub read-items : (is : List Item) (looks : ℕ) (rest : List ℕ) (place number : ℕ) → LegalItems is → 2 ≤ number
     → number + length is ≤ 2049
     → readFrom (length is + looks) (printedItems is ++ rest) place number false
-    ≡ behind is (readFrom looks rest (place + length (printedItems is)) (number + length is) false)
+    ≡ withItems is (readFrom looks rest (place + length (printedItems is)) (number + length is) false)
 unfolding printedItems
 read-items [] looks rest place number h more few = rw (zero-add, add-zero place, add-zero number)
 read-items (i ∷ is) looks rest place number h more few =
@@ -85,7 +85,7 @@ read-items (i ∷ is) looks rest place number h more few =
     let next : number + 1 + length is ≡ number + suc (length is) = omega arith in
     rw (suc-add, append-assoc)
     (read-item (length is + looks) place number (printedItems is ++ rest) more (omega arith) i (h .0)
-    ∙ ap (behind (i ∷ []))
+    ∙ ap (withItems (i ∷ []))
     (read-items is looks rest (place + length (printedItem i)) (number + 1) (h .1) (omega arith) (omega arith)
     ∙ rw (far, next)))
 
@@ -94,7 +94,7 @@ abbrev pub opened : ℕ → ℕ → List Item → List ℕ
 opened m g is = 0x01 ∷ m ∷ g ∷ printedItems is
 
 pub read-opened : (m g : ℕ) (is : List Item) (rest : List ℕ) → LegalItems is → length is ≤ 2047
-    → reading (opened m g is ++ rest) ≡ behind is (readFrom (2048 - length is) rest (length (opened m g is)) (2 + length is) false)
+    → reading (opened m g is ++ rest) ≡ withItems is (readFrom (2048 - length is) rest (length (opened m g is)) (2 + length is) false)
 unfolding reading
 read-opened m g is rest h few =
     let looks : 2048 ≡ length is + (2048 - length is) = omega arith in
@@ -107,7 +107,7 @@ read-opened m g is rest h few =
 -- a legal recipe's bytes are read to their end, Leave having come
 pub read-printed : (r : Recipe) (rest : List ℕ) → Legal r
     → reading (printed r ++ rest)
-    ≡ behind (r .items) (readFrom (2047 - length (r .items)) rest (length (printed r)) (3 + length (r .items)) true)
+    ≡ withItems (r .items) (readFrom (2047 - length (r .items)) rest (length (printed r)) (3 + length (r .items)) true)
 unfolding printed
 read-printed r rest h =
     let is = r .items in
@@ -117,7 +117,7 @@ read-printed r rest h =
     let next : 2 + length is + 1 ≡ 3 + length is = omega arith in
     rw append-assoc
     (read-opened (r .moduleNumber) (r .groupNumber) is (0x0F ∷ rest) (h .each) (omega (arith, h .few))
-    ∙ ap (behind is)
+    ∙ ap (withItems is)
     (ap (λ (n : ℕ). readFrom n (0x0F ∷ rest) (length (opened (r .moduleNumber) (r .groupNumber) is)) (2 + length is) false) looks
     ∙ read-leave (2047 - length is) (length (opened (r .moduleNumber) (r .groupNumber) is)) (2 + length is) rest (omega arith) (omega
     (arith, h .few))

@@ -9,7 +9,7 @@ use lib.Dec.{eqb}
 use lib.ListN.{length, drop}
 use borrow.Author.Tests.{eq-eqb, ne-eqb}
 use Rattle.recipe.specs.Faults.{kindOf, faultAt}
-use Rattle.recipe.specs.Reading.{atEnd, fault, sizeOf, itemsAt, behind, readFrom}
+use Rattle.recipe.specs.Reading.{atEnd, fault, sizeOf, itemsAt, withItems, readFrom}
 
 module _ (looks : ℕ) (input : List ℕ) (place number : ℕ) (afterLeave : Bool) where
   pub read-end : length input ≡ 0 → readFrom (suc looks) input place number afterLeave ≡ record { items = []; stop = atEnd afterLeave }
@@ -25,7 +25,7 @@ module _ (looks : ℕ) (input : List ℕ) (place number : ℕ) (afterLeave : Boo
 
   pub read-on : 0 < length input → faultAt input number afterLeave ≡ 0
       → readFrom (suc looks) input place number afterLeave
-      ≡ behind (itemsAt input)
+      ≡ withItems (itemsAt input)
       (readFrom looks (drop (sizeOf input) input) (place + sizeOf input) (number + 1) (eqb (kindOf input) 0x0F))
   unfolding readFrom
   read-on h f =

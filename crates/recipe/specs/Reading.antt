@@ -28,8 +28,8 @@ itemsAt input =
     cond (eqb (kindOf input) 0x02) (block (addressOf input) (part input 4 64) ∷ [])
     (cond (eqb (kindOf input) 0x03) (row (addressOf input) (part input 4 8) ∷ []) [])
 
-abbrev pub behind : List Item → Reading → Reading
-behind is r = record { items = is ++ r .items; stop = r .stop }
+abbrev pub withItems : List Item → Reading → Reading
+withItems is r = record { items = is ++ r .items; stop = r .stop }
 
 -- `input` is what is left, from byte `place` on, and starts with item `number`. `looks` is how many items may still be looked at; the
 -- reading starts with 2,049 and finds a fault at item 2,049, so that it never runs out: it is there that the definition may recur.
@@ -38,7 +38,7 @@ readFrom zero input place number afterLeave = record { items = []; stop = fault 
 readFrom (suc looks) input place number afterLeave =
     cond (eqb (length input) 0) (record { items = []; stop = atEnd afterLeave })
     (cond (eqb (faultAt input number afterLeave) 0)
-    (behind (itemsAt input)
+    (withItems (itemsAt input)
     (readFrom looks (drop (sizeOf input) input) (place + sizeOf input) (number + 1) (eqb (kindOf input) 0x0F)))
     (record { items = []; stop = fault (faultAt input number afterLeave) place }))
 

@@ -9,6 +9,15 @@ use Rattle.recipe.specs.declared.Translated.the-variants.{Frames, Refuse
 use Rattle.recipe.specs.Frames.{framesOf, joined, frameCount}
 use Rattle.recipe.specs.Reading.{Stop, atEnd, fault, reading, recipeOf}
 
+-- document 01's number and value for an answer: 0 and the frame count, or a refusal's number and the place
+abbrev pub translatedNumber : Translated → ℕ
+translatedNumber (Frames count) = 0
+translatedNumber (Refused number place) = number
+
+abbrev pub translatedValue : Translated → ℕ
+translatedValue (Frames count) = count
+translatedValue (Refused number place) = place
+
 -- "Refusals name the item's starting byte"; "At the end: 20 no Leave yet, place the length (empty input too)"; else "success reports
 -- the frame count"
 abbrev pub answerAt : Stop → ℕ → ℕ → Translated
@@ -29,9 +38,9 @@ unfoldable pub translated : List ℕ → ℕ → Translated
 translated input room = unlessShort (checked input) room
 
 -- the output after an answer: "output untouched", or the frames and "bytes behind the last frame stay"
-abbrev pub outputAfter : Translated → List ℕ → List ℕ → List ℕ
-outputAfter (Refused number place) input output = output
-outputAfter (Frames count) input output = joined (framesOf (recipeOf input)) ++ drop (12 * count) output
+abbrev pub outputBy : Translated → List ℕ → List ℕ → List ℕ
+outputBy (Refused number place) input output = output
+outputBy (Frames count) input output = joined (framesOf (recipeOf input)) ++ drop (12 * count) output
 
 unfoldable pub translatedOutput : List ℕ → List ℕ → List ℕ
-translatedOutput input output = outputAfter (translated input (length output)) input output
+translatedOutput input output = outputBy (translated input (length output)) input output

@@ -11,7 +11,7 @@ use Rattle.recipe.specs.declared.Translated.{Translated}
 use Rattle.recipe.specs.declared.Translated.the-variants.{Frames, Refused}
 use Rattle.recipe.specs.Frames.{framesOf, joined, frameCount}
 use Rattle.recipe.specs.Reading.{Stop, atEnd, fault, reading, recipeOf}
-use Rattle.recipe.specs.Translation.{answerAt, checked, translated, outputAfter, translatedOutput}
+use Rattle.recipe.specs.Translation.{answerAt, checked, translated, outputBy, translatedOutput}
 
 module _ (s : List ℕ) where
   counted : (t : Stop) (k n : ℕ) → answerAt t (length s) k ≡ Frames n → k ≡ n
@@ -39,9 +39,9 @@ module _ (s : List ℕ) where
   Answered o r o₁ = (r ≡ translated s (length o)) × (o₁ ≡ translatedOutput s o)
 
   module _ (o : List ℕ) where
-    after : (r : Translated) → translated s (length o) ≡ r → outputAfter r s o ≡ translatedOutput s o
+    after : (r : Translated) → translated s (length o) ≡ r → outputBy r s o ≡ translatedOutput s o
     unfolding translatedOutput
-    after r e = ap (λ (x : Translated). outputAfter x s o) (sym e)
+    after r e = ap (λ (x : Translated). outputBy x s o) (sym e)
 
     pub answer-refused : (r : Translated) (k p : ℕ) → r ≡ checked s → r ≡ Refused k p → Answered o (Refused k p) o
     answer-refused r k p c e =

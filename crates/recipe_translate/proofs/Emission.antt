@@ -126,14 +126,14 @@ module _ (s o : List ℕ) (m g : ℕ) (legal : reading s .stop ≡ atEnd true) (
               → bytesOf m g (readOn s c) (c .ended) ≡ joined (framesAt m g there) ++ bytesOf m g (readOn s (nextOf s c)) (nextOf s c .ended)
           go (inl l) =
               let kind = eqb-true (kindOf there) 0x0F l in
-              let behind : readOn s (nextOf s c) .items ≡ [] = after-leave s (nextOf s c) (stands-next s c at (k .kept .stands)) l in
+              let withItems : readOn s (nextOf s c) .items ≡ [] = after-leave s (nextOf s c) (stands-next s c at (k .kept .stands)) l in
               let none : itemsAt there ≡ [] = rw kind in
               let here : readOn s c .items ≡ [] = ap (λ (r : Reading). r .items) (on-next s c at) ∙ ap₂ (λ
-              (is js : List Item). is ++ js) none behind in
+              (is js : List Item). is ++ js) none withItems in
               ap₂ (λ (is : List Item) (b : Bool). joined (itemsFrames m g is) ++ cond b [] (leaveFrame m g)) here (not-ended s c at)
               ∙ sym (ap₂ (λ (fs : List (List ℕ)) (is : List Item). joined fs ++ (joined (itemsFrames m g is) ++ cond
               (nextOf s c .ended) [] (leaveFrame m g)))
-              (leave-frames m g there whole kind) behind ∙ rw l)
+              (leave-frames m g there whole kind) withItems ∙ rw l)
           go (inr l) =
               ap₂ (λ (r : Reading) (b : Bool). bytesOf m g r b) (on-next s c at) (not-ended s c at)
               ∙ ap (λ (x : List ℕ). x ++ leaveFrame m g)

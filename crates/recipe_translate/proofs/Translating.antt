@@ -15,7 +15,7 @@ use Rattle.recipe.specs.declared.Translated.the-variants.{Frames, Refused}
 use Rattle.recipe.specs.Items.{Recipe, Legal, printed}
 use Rattle.recipe.specs.Frames.{framesOf, joined, frameCount}
 use Rattle.recipe.specs.Reading.{recipeOf}
-use Rattle.recipe.specs.Translation.{checked, translated, outputAfter, translatedOutput}
+use Rattle.recipe.specs.Translation.{checked, translated, outputBy, translatedOutput}
 use Rattle.recipe.proofs.Accepts.{accepts-legal, output-legal, short-output, printed-once}
 use Rattle.recipe.proofs.OnlyLegal.{accepts-only}
 use Rattle.recipe.proofs.Framing.{most-frames}
@@ -47,8 +47,8 @@ module _ (κs : Lfts 2) (a : ArgsD signature κs) (r : ResD signature κs) (s : 
       ap (λ (x : List ℕ). translated x (length before)) e ∙ accepts-legal q legal (length before) room in (
         p .0 ∙ t,
         p .1
-            ∙ ap (λ (x : Translated). outputAfter x input before) t
-            ∙ ap (λ (x : List ℕ). outputAfter (Frames (frameCount q)) x before) e
+            ∙ ap (λ (x : Translated). outputBy x input before) t
+            ∙ ap (λ (x : List ℕ). outputBy (Frames (frameCount q)) x before) e
             ∙ output-legal q legal before,
       )
 
@@ -59,7 +59,7 @@ module _ (κs : Lfts 2) (a : ArgsD signature κs) (r : ResD signature κs) (s : 
   refuses-short-output q legal e short =
       let t : translated input (length before) ≡ Refused 26 0 =
       ap (λ (x : List ℕ). translated x (length before)) e ∙ short-output q legal (length before) short in
-      (p .0 ∙ t, p .1 ∙ ap (λ (x : Translated). outputAfter x input before) t)
+      (p .0 ∙ t, p .1 ∙ ap (λ (x : Translated). outputBy x input before) t)
 
   -- whatever bytes it accepts are those of a legal recipe, and of no other; the count is that recipe's, and at most 36,829
   pub accepts-only-legal : (count : ℕ) → r ≡ Frames count
@@ -78,7 +78,7 @@ module _ (κs : Lfts 2) (a : ArgsD signature κs) (r : ResD signature κs) (s : 
   -- no refusal touches the output
   pub refusal-keeps-output : (number place : ℕ) → r ≡ Refused number place → after ≡ before
   unfolding translatedOutput
-  refusal-keeps-output number place e = p .1 ∙ ap (λ (x : Translated). outputAfter x input before) (sym (p .0) ∙ e)
+  refusal-keeps-output number place e = p .1 ∙ ap (λ (x : Translated). outputBy x input before) (sym (p .0) ∙ e)
 
   -- a fault that the reading finds is the answer, whatever the output (which fault, and where: the crate recipe's laws, Refusals)
   pub refuses-fault : (number place : ℕ) → checked input ≡ Refused number place → (r ≡ Refused number place) × (after ≡ before)

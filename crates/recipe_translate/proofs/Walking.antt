@@ -17,7 +17,7 @@ use Rattle.recipe.specs.declared.Translated.the-variants.{Frames, Refused}
 use Rattle.recipe.specs.Items.{Item}
 use Rattle.recipe.specs.Frames.{itemCount, itemsCount, frameCount}
 use Rattle.recipe.specs.Faults.{kindOf, faultAt}
-use Rattle.recipe.specs.Reading.{Reading, Stop, atEnd, fault, sizeOf, itemsAt, behind, readFrom, reading, recipeOf}
+use Rattle.recipe.specs.Reading.{Reading, Stop, atEnd, fault, sizeOf, itemsAt, withItems, readFrom, reading, recipeOf}
 use Rattle.recipe.specs.Translation.{answerAt, checked}
 use Rattle.recipe.proofs.Order.{faultless}
 use Rattle.recipe.proofs.Steps.{read-end, read-fault, read-on}
@@ -101,14 +101,14 @@ module _ (s : List ℕ) (c : Cursor) (at : AtItem s c) where
   item-inside =
       omega (arith, faultless (drop (c .place) s) (c .number) (c .ended) (at .faultless) .whole, length-drop (c .place) s, at .inside)
 
-  pub on-next : readOn s c ≡ behind (itemsAt (drop (c .place) s)) (readOn s (nextOf s c))
+  pub on-next : readOn s c ≡ withItems (itemsAt (drop (c .place) s)) (readOn s (nextOf s c))
   on-next =
       let t = drop (c .place) s in
       let there : 2049 - c .number ≡ 2050 - (c .number + 1) = omega arith in
       ap (λ (n : ℕ). readFrom n t (c .place) (c .number) (c .ended)) (looks s c (at .few))
       ∙ read-on (2049 - c .number) t (c .place) (c .number) (c .ended) (simp length-drop (omega (arith, at .inside))) (at .faultless)
       ∙ ap₂ (λ (n : ℕ) (l : List ℕ).
-      behind (itemsAt t) (readFrom n l (c .place + sizeOf t) (c .number + 1) (eqb (kindOf t) 0x0F)))
+      withItems (itemsAt t) (readFrom n l (c .place + sizeOf t) (c .number + 1) (eqb (kindOf t) 0x0F)))
       there (drop-drop (sizeOf t) (c .place) s)
 
   pub stands-next : Stands s c → Stands s (nextOf s c)

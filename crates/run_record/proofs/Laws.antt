@@ -10,11 +10,11 @@ use Rattle.base.proofs.Listed.{listed-part, listed-all}
 use Rattle.node_rules.specs.declared.Mode.{Mode}
 use Rattle.node_rules.specs.declared.Node.{Node}
 use Rattle.node_rules.specs.Requests.{stagedIn}
-use Rattle.run_record.specs.Internal.Record.{pinByte, modeByte, stagedByte, kindByte, addressOf, fourBytes, modeBytes, nodeBytes}
+use Rattle.run_record.specs.Internal.Record.{pinByte, modeByte, stagedByte, kindByte, placedAt, fourBytes, modeBytes, nodeBytes}
 
 -- the mode's bytes
 pub mode-written : (mode : Mode) (m s k a : ℕ) → m ≡ modeByte mode → s ≡ stagedByte (stagedIn mode) → k ≡ kindByte (stagedIn mode)
-    → a ≡ addressOf (stagedIn mode) → m ∷ s ∷ k ∷ fourBytes a ≡ modeBytes mode
+    → a ≡ placedAt (stagedIn mode) → m ∷ s ∷ k ∷ fourBytes a ≡ modeBytes mode
 mode-written mode m s k a em es ek ea = rw (em, es, ek, ea) refl
 
 -- the record's bytes, with the fixed and the held ones written out one by one

@@ -1,7 +1,7 @@
 // The end of the record: the mode, what is staged, and its address.
 ghost use mathlib.Core.Path.{_≡_};
 ghost use Rattle.node_rules.specs.Requests.{stagedIn};
-ghost use Rattle.run_record.specs.Internal.Record.{modeByte, stagedByte, kindOf, kindByte, numberOf, addressOf};
+ghost use Rattle.run_record.specs.Internal.Record.{modeByte, stagedByte, memoryOf, kindByte, addressNumber, placedAt};
 use memory_address::Address;
 use node_rules::Mode;
 use node_rules::Staged;
@@ -28,7 +28,7 @@ fn plain(mode: u8) -> Last
 
 // Programming mode with this command at an address of either kind.
 fn staged_at(staged: u8, a: Address) -> Last
-    ensures { λ r. ⌜ (r .mode ≡ 2) × (r .staged ≡ staged) × (r .kind ≡ kindOf a) × (r .address ≡ numberOf a) ⌝ }
+    ensures { λ r. ⌜ (r .mode ≡ 2) × (r .staged ≡ staged) × (r .kind ≡ memoryOf a) × (r .address ≡ addressNumber a) ⌝ }
 {
     match a {
         Address::Flash(f) => Last {
@@ -48,7 +48,7 @@ fn staged_at(staged: u8, a: Address) -> Last
 
 // Programming mode with what is staged.
 fn last_of_staged(s: Staged) -> Last
-    ensures { λ r. ⌜ (r .mode ≡ 2) × (r .staged ≡ stagedByte s) × (r .kind ≡ kindByte s) × (r .address ≡ addressOf s) ⌝ }
+    ensures { λ r. ⌜ (r .mode ≡ 2) × (r .staged ≡ stagedByte s) × (r .kind ≡ kindByte s) × (r .address ≡ placedAt s) ⌝ }
 {
     match s {
         Staged::Nothing => plain(2),
@@ -68,7 +68,7 @@ pub fn last_of(m: Mode) -> Last
     ensures { λ r. ⌜ (r .mode ≡ modeByte m)
         × (r .staged ≡ stagedByte (stagedIn m))
         × (r .kind ≡ kindByte (stagedIn m))
-        × (r .address ≡ addressOf (stagedIn m)) ⌝ }
+        × (r .address ≡ placedAt (stagedIn m)) ⌝ }
 {
     match m {
         Mode::Normal(started) => { if started { plain(1) } else { plain(0) } }

@@ -13,7 +13,7 @@ use Rattle.node_rules.specs.declared.Node.{Node}
 use Rattle.node_rules.specs.Runs.{state}
 use Rattle.recipe.specs.declared.Translated.{Translated}
 use Rattle.recipe.specs.declared.Translated.the-variants.{Frames, Refused}
-use Rattle.recipe.specs.Translation.{translated, outputAfter}
+use Rattle.recipe.specs.Translation.{translated, outputBy}
 use Rattle.update_rules.specs.Delivery.{delivered}
 use Rattle.update_rules.proofs.Deliveries.{all-delivered, delivery-keeps, delivery-spares}
 use Rattle.update_deliver.specs.Taken.{firstFrames}
@@ -30,7 +30,7 @@ module _ (recipe flash eeprom frames answers : List ℕ) (n : Node) where
   unfolding delivered
   step-protected (Refused number place) i p = refl
   step-protected (Frames count) i p =
-      let fs = firstFrames count (outputAfter (Frames count) recipe frames) in
+      let fs = firstFrames count (outputBy (Frames count) recipe frames) in
       delivery-spares fs (state n flash eeprom) _ _ (all-delivered fs (state n flash eeprom)) i p
 
   step-lengths : (t : Translated)
@@ -39,7 +39,7 @@ module _ (recipe flash eeprom frames answers : List ℕ) (n : Node) where
   unfolding delivered
   step-lengths (Refused number place) = (refl, refl)
   step-lengths (Frames count) =
-      let fs = firstFrames count (outputAfter (Frames count) recipe frames) in
+      let fs = firstFrames count (outputBy (Frames count) recipe frames) in
       let kept = delivery-keeps fs (state n flash eeprom) _ _ (all-delivered fs (state n flash eeprom)) in
       (kept .flashLength, kept .eepromLength)
 

@@ -17,7 +17,7 @@ use Rattle.recipe.specs.declared.Translated.{Translated}
 use Rattle.recipe.specs.declared.Translated.the-variants.{Frames, Refused}
 use Rattle.recipe.specs.Frames.{framesOf, joined}
 use Rattle.recipe.specs.Reading.{recipeOf}
-use Rattle.recipe.specs.Translation.{unlessShort, checked, translated, outputAfter, translatedOutput}
+use Rattle.recipe.specs.Translation.{unlessShort, checked, translated, outputBy, translatedOutput}
 use Rattle.update_deliver.specs.Delivering.{roomFor, left, deliverBy, deliverStep}
 use Rattle.update_deliver.specs.Internal.Handing.{handed, handedOver, afterHandOver}
 
@@ -45,16 +45,16 @@ accepted-fits input room count = go (checked input)
 module _ (input : List ℕ) (n : Node) (flash eeprom frames answers : List ℕ) where
   -- the frames after the translator wrote into their first `room` bytes
   frames-after : (room : ℕ) → room ≤ length frames → (t : Translated) → translated input room ≡ t
-      → translatedOutput input (take room frames) ++ drop room frames ≡ outputAfter t input frames
+      → translatedOutput input (take room frames) ++ drop room frames ≡ outputBy t input frames
   unfolding translatedOutput
   frames-after room h t e =
       let l = length-take-le room frames h in
-      ap (λ (k : ℕ). outputAfter (translated input k) input (take room frames) ++ drop room frames) l
-      ∙ ap (λ (x : Translated). outputAfter x input (take room frames) ++ drop room frames) e
+      ap (λ (k : ℕ). outputBy (translated input k) input (take room frames) ++ drop room frames) l
+      ∙ ap (λ (x : Translated). outputBy x input (take room frames) ++ drop room frames) e
       ∙ go t e
     where
-      go : (x : Translated) → translated input room ≡ x → outputAfter x input
-          (take room frames) ++ drop room frames ≡ outputAfter x input frames
+      go : (x : Translated) → translated input room ≡ x → outputBy x input
+          (take room frames) ++ drop room frames ≡ outputBy x input frames
       go (Refused number place) q = take-append-drop room frames
       go (Frames count) q =
           let written = joined (framesOf (recipeOf input)) in
@@ -79,7 +79,7 @@ module _ (input : List ℕ) (n : Node) (flash eeprom frames answers : List ℕ) 
     is-step : translated input (roomFor (length frames) (length answers)) ≡ t
     is-step = ap (translated input) (sym r) ∙ is-answer
 
-    frames-are : output ++ drop (room - 0) frames ≡ outputAfter t input frames
+    frames-are : output ++ drop (room - 0) frames ≡ outputBy t input frames
     frames-are =
         ap (λ (x : List ℕ). x ++ drop (room - 0) frames) o
         ∙ ap (λ (k : ℕ). translatedOutput input (take k frames) ++ drop k frames) (sub-zero room)
@@ -91,7 +91,7 @@ module _ (input : List ℕ) (n : Node) (flash eeprom frames answers : List ℕ) 
     unfolding deliverStep
     step-refused number place h =
         ap (λ (fs : List ℕ). left (record { translated = Refused number place; node = n; count = 0 }) flash eeprom fs answers)
-        (frames-are ∙ ap (λ (x : Translated). outputAfter x input frames) h)
+        (frames-are ∙ ap (λ (x : Translated). outputBy x input frames) h)
         ∙ ap (λ (x : Translated). deliverBy x input n flash eeprom frames answers) (sym (is-step ∙ h))
 
     module _ (count : ℕ) (h : t ≡ Frames count) where
@@ -108,8 +108,8 @@ module _ (input : List ℕ) (n : Node) (flash eeprom frames answers : List ℕ) 
           ≡ deliverStep input n flash eeprom frames answers
       unfolding deliverStep handedOver
       step-done n′ flash′ eeprom′ answers′ k =
-          let same : output ++ drop (room - 0) frames ≡ outputAfter (Frames count) input frames =
-          frames-are ∙ ap (λ (x : Translated). outputAfter x input frames) h in
+          let same : output ++ drop (room - 0) frames ≡ outputBy (Frames count) input frames =
+          frames-are ∙ ap (λ (x : Translated). outputBy x input frames) h in
           ap (afterHandOver count (output ++ drop (room - 0) frames)) k
           ∙ ap (λ (fs : List ℕ). afterHandOver count fs (handedOver count fs n flash eeprom answers)) same
           ∙ ap (λ (x : Translated). deliverBy x input n flash eeprom frames answers) (sym (is-step ∙ h))

@@ -8,7 +8,7 @@ use Rattle.node_rules.specs.declared.Node.{Node}
 use Rattle.recipe.specs.declared.Translated.{Translated}
 use Rattle.recipe.specs.declared.Translated.the-variants.{Frames, Refused}
 use Rattle.recipe.specs.Frames.{joined}
-use Rattle.recipe.specs.Translation.{translated, outputAfter}
+use Rattle.recipe.specs.Translation.{translated, outputBy}
 use Rattle.update_deliver.specs.declared.Delivered.{Delivered}
 use Rattle.update_rules.specs.Delivery.{Delivery, delivered}
 use Rattle.update_deliver.specs.Taken.{firstFrames}
@@ -40,7 +40,7 @@ abbrev pub deliverBy : Translated → List ℕ → Node → List ℕ → List �
 deliverBy (Refused number place) recipe n flash eeprom frames answers =
     left (record { translated = Refused number place; node = n; count = 0 }) flash eeprom frames answers
 deliverBy (Frames count) recipe n flash eeprom frames answers =
-    let written = outputAfter (Frames count) recipe frames in
+    let written = outputBy (Frames count) recipe frames in
     leftBy count written (delivered (firstFrames count written) n flash eeprom) answers
 
 unfoldable pub deliverStep : List ℕ → Node → List ℕ → List ℕ → List ℕ → List ℕ → Left

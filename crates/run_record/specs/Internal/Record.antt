@@ -34,27 +34,27 @@ stagedByte (Write a) = 2
 stagedByte (Erase f) = 3
 
 -- "kind of address (0 FLASH, 1 EEPROM)"
-abbrev pub kindOf : Address → ℕ
-kindOf (Flash f) = 0
-kindOf (Eeprom e) = 1
+abbrev pub memoryOf : Address → ℕ
+memoryOf (Flash f) = 0
+memoryOf (Eeprom e) = 1
 
 -- the kind and the address of what is staged; of nothing, which is what is staged outside programming mode, 0
 abbrev pub kindByte : Staged → ℕ
 kindByte Nothing = 0
-kindByte (Read a) = kindOf a
-kindByte (Write a) = kindOf a
+kindByte (Read a) = memoryOf a
+kindByte (Write a) = memoryOf a
 kindByte (Erase f) = 0
 
 -- the number of an address of either kind
-abbrev pub numberOf : Address → ℕ
-numberOf (Flash f) = f .0
-numberOf (Eeprom e) = e .0
+abbrev pub addressNumber : Address → ℕ
+addressNumber (Flash f) = f .0
+addressNumber (Eeprom e) = e .0
 
-abbrev pub addressOf : Staged → ℕ
-addressOf Nothing = 0
-addressOf (Read a) = numberOf a
-addressOf (Write a) = numberOf a
-addressOf (Erase f) = f .0
+abbrev pub placedAt : Staged → ℕ
+placedAt Nothing = 0
+placedAt (Read a) = addressNumber a
+placedAt (Write a) = addressNumber a
+placedAt (Erase f) = f .0
 
 -- "A number of several bytes has its high byte first": a number of 32 bits as four bytes
 abbrev pub fourBytes : ℕ → List ℕ
@@ -62,7 +62,7 @@ fourBytes a = a / 16777216 ∷ a / 65536 % 256 ∷ a / 256 % 256 ∷ a % 256 ∷
 
 -- "mode ..; staged ..; kind of address ..; address, 4 bytes"
 abbrev pub modeBytes : Mode → List ℕ
-modeBytes m = modeByte m ∷ stagedByte (stagedIn m) ∷ kindByte (stagedIn m) ∷ fourBytes (addressOf (stagedIn m))
+modeBytes m = modeByte m ∷ stagedByte (stagedIn m) ∷ kindByte (stagedIn m) ∷ fourBytes (placedAt (stagedIn m))
 
 -- "pin ..; six fixed bytes; own module; own group; count of held bytes; 14 held bytes", then the mode's bytes. A count is one byte: of
 -- one that passes 255, which no tidied record has, the low byte. The 14 held bytes are the first 14 of the record's, as they stand.
