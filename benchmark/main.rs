@@ -10,6 +10,9 @@ use std::io::{self, BufWriter, Read, Write};
 
 const RECORD: usize = 64;
 const NODE: usize = 31;
+/// The cells that a session has of each memory.
+const SESSION_FLASH: usize = 131_136;
+const SESSION_EEPROM: usize = 65_600;
 /// What a lent output is filled with.
 const OUTPUT_FILL: u8 = 0xEE;
 
@@ -48,22 +51,29 @@ fn node_bytes(node: &Node) -> [u8; NODE] {
     bytes
 }
 
-/// The record of a hand-in, untidied. A record of the peer has no kind of address beside the
-/// number, so that a number of the other kind is handed in as nothing.
-fn node_of(b: &[u8]) -> Node {
-    let address = number(b, 27);
-    let command = match b[25] {
+/// What is staged by its number, the kind of its address and the address. A record of the peer has
+/// no kind of address beside the number, so that a number of the other kind is nothing.
+fn command_of(staged: u8, kind: u8, address: u32) -> Command {
+    match staged {
         3 => Command::Erase,
-        1 | 2 if (b[26] != 0) != (address >= EEPROM_FIRST) => Command::Nothing,
+        1 | 2 if (kind != 0) != (address >= EEPROM_FIRST) => Command::Nothing,
         1 => Command::Read,
         2 => Command::Write,
         _ => Command::Nothing,
-    };
+    }
+}
+
+/// The record of a hand-in, untidied. A count of the peer is one byte: a higher one becomes 255,
+/// which counts as none, too.
+fn node_of(b: &[u8]) -> Node {
+    let address = number(b, 27);
+    let command = command_of(b[25], b[26], address);
     let mut held = [0; 16];
     held[..HELD].copy_from_slice(&b[10..24]);
+    held[HELD] = b[35];
     Node {
         held,
-        count: b[9],
+        count: if number(b, 31) == 0 { b[9] } else { 255 },
         uart: b[0] != 0,
         mode: match b[24] {
             0 => Mode::Normal,
@@ -76,6 +86,21 @@ fn node_of(b: &[u8]) -> Node {
         own: [b[7], b[8]],
         address,
         fixed: b[1..7].try_into().unwrap(),
+    }
+}
+
+/// Fills cells: the first becomes the fill, each other the one before it plus `step`, plus `more`
+/// too at each 256th.
+fn fill(cells: &mut [u8], first: u8, step: u8, more: u8) {
+    let mut value = first;
+    for (index, cell) in cells.iter_mut().enumerate() {
+        if index > 0 {
+            value = value.wrapping_add(step);
+        }
+        if index > 0 && index % 256 == 0 {
+            value = value.wrapping_add(more);
+        }
+        *cell = value;
     }
 }
 
@@ -97,14 +122,20 @@ impl Line {
         self.length += bytes.len();
     }
 
+    /// Adds a record: NODE, and the fifteenth held byte.
+    fn add_node(&mut self, node: &Node) {
+        self.add(&node_bytes(node));
+        self.add(&[node.held[HELD]]);
+    }
+
     fn bytes(&self) -> &[u8] {
         &self.bytes[..self.length]
     }
 }
 
 struct Session {
-    flash: [u8; FLASH_CELLS + 1],
-    eeprom: [u8; EEPROM_CELLS + 1],
+    flash: [u8; SESSION_FLASH],
+    eeprom: [u8; SESSION_EEPROM],
     lent: [usize; 2],
     node: Node,
     number: u32,
@@ -118,8 +149,8 @@ struct Session {
 impl Session {
     fn new() -> Session {
         Session {
-            flash: [0; FLASH_CELLS + 1],
-            eeprom: [0; EEPROM_CELLS + 1],
+            flash: [0; SESSION_FLASH],
+            eeprom: [0; SESSION_EEPROM],
             lent: [FLASH_CELLS, EEPROM_CELLS],
             node: Node::fresh([0; 6]),
             number: 0,
@@ -141,15 +172,19 @@ impl Session {
                 let number = self.node.restart(b[1] != 0, b[2] == 0, flash, eeprom);
                 self.counts[number as usize] += 1;
                 line = Line::of(&[b[0], number]);
-                line.add(&node_bytes(&self.node));
+                line.add_node(&self.node);
             }
             0x02 => {
                 let mut replies = [OUTPUT_FILL; 24];
-                let answer = self.node.can_frame(part(b, 2, b[1]), flash, eeprom, &mut replies);
+                let mut bytes = [0x55; 1_024];
+                bytes[..RECORD - 3].copy_from_slice(&b[3..]);
+                let length = u16::from_be_bytes([b[1], b[2]]) as usize;
+                let frame = &bytes[..length.min(bytes.len())];
+                let answer = self.node.can_frame(frame, flash, eeprom, &mut replies);
                 self.counts[2 + answer.number as usize] += 1;
                 line = Line::of(&[b[0], answer.number, answer.count]);
                 line.add(&replies);
-                line.add(&node_bytes(&self.node));
+                line.add_node(&self.node);
             }
             0x03 => {
                 let mut replies = [OUTPUT_FILL; 30];
@@ -157,7 +192,7 @@ impl Session {
                 self.counts[14 + answer.number as usize] += 1;
                 line = Line::of(&[b[0], answer.number, answer.count]);
                 line.add(&replies);
-                line.add(&node_bytes(&self.node));
+                line.add_node(&self.node);
             }
             0x04 => {
                 let address = number(b, 1);
@@ -217,9 +252,8 @@ impl Session {
         match b[0] {
             0x05 => self.node = node_of(&b[1..]),
             0x06 => {
-                let above_fewer = |choice| [1, 0, 2][usize::from(u8::min(choice, 2))];
-                self.lent =
-                    [FLASH_CELLS - 1 + above_fewer(b[1]), EEPROM_CELLS - 1 + above_fewer(b[2])];
+                let (flash, eeprom) = (number(b, 1) as usize, number(b, 5) as usize);
+                self.lent = [flash.min(SESSION_FLASH), eeprom.min(SESSION_EEPROM)];
             }
             0x07 => {
                 let address = number(b, 1);
@@ -232,8 +266,8 @@ impl Session {
                 }
             }
             0x08 => {
-                self.flash.fill(b[1]);
-                self.eeprom.fill(b[2]);
+                fill(&mut self.flash, b[1], b[11], b[12]);
+                fill(&mut self.eeprom, b[2], b[11], b[12]);
                 self.lent = [FLASH_CELLS, EEPROM_CELLS];
                 self.node = Node::fresh(b[3..9].try_into().unwrap());
                 self.number += 1;
@@ -288,11 +322,17 @@ fn apply(h: &[u8], recipe: &[u8], output: &mut [u8], out: &mut impl Write) -> io
             return writeln!(out, " answers 0 flash 0 eeprom 0 node 0");
         }
     };
-    let mut flash = [h[2]; FLASH_CELLS];
-    let mut eeprom = [h[3]; EEPROM_CELLS];
+    let mut flash = [0; FLASH_CELLS];
+    let mut eeprom = [0; EEPROM_CELLS];
+    fill(&mut flash, h[2], h[14], h[15]);
+    fill(&mut eeprom, h[3], h[14], h[15]);
     (eeprom[BOOTFL], eeprom[MODULE], eeprom[GROUP]) = (0xFF, h[4], h[5]);
     let mut node = Node::fresh([0; 6]);
-    node.restart(true, true, &flash, &eeprom);
+    node.restart(h[16] != 0, true, &flash, &eeprom);
+    node.address = number(h, 19);
+    node.command = command_of(h[17], h[18], node.address);
+    node.count = h[23];
+    node.held[..HELD].copy_from_slice(&h[24..38]);
     let mut answers = 0;
     for frame in output[..12 * count].chunks_exact(12) {
         if h[1] == 0 {

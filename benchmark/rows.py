@@ -61,7 +61,7 @@ def wrapped(inner):
 
 
 def can(*frames):
-    return [record(0x02, 12, f) for f in frames]
+    return [record(0x02, 0, 12, f) for f in frames]
 
 
 def uart(some):
@@ -125,8 +125,9 @@ def streams(work):
     rows = [r for _, _, events in ROWS for r in [*events, mark]]
     # A node whose BOOTFL is 0x00, so that each restart works out the firmware sum.
     restarts = [record(0x08, 0x5A, 0x00)] + 100 * [record(0x01, 1)]
-    # The recipe, on CAN and on UART.
+    # The recipe, on CAN and on UART: plain memories, pin CAN and UART, nothing staged, nothing held.
     recipe = open(f'{work}/recipe', 'rb').read()
+    recipe = record(recipe[:14], 0, 0, 1) + recipe[64:]
     for name, stream in (
         ('rows', b''.join([begin, *rows, end])),
         ('restarts', b''.join([*restarts, end])),
