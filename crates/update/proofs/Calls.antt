@@ -3,8 +3,8 @@
 -- Assumes nothing.
 use mathlib.Core.Path.{_≡_, _∙_, sym, refl, ap, ap₂, subst}
 use mathlib.Core.Bool.{Bool, true, false}
-use mathlib.Core.List.{List, _++_}
-use Prim.Native.Nat.{ℕ, _*_, _≤_, _<_}
+use mathlib.Core.List.{List}
+use Prim.Native.Nat.{ℕ, _*_, _≤_}
 use native.Mathlib.Omega.{arith}
 use lib.Dec.{ltb}
 use lib.ListN.{length, drop}
@@ -17,15 +17,15 @@ use Rattle.node.proofs.Calls.{frames-said}
 use Rattle.recipe.specs.declared.Translated.{Translated}
 use Rattle.recipe.specs.declared.Translated.the-variants.{Frames, Refused}
 use Rattle.recipe.specs.Items.{Recipe, Legal, printed}
-use Rattle.recipe.specs.Frames.{framesOf, joined, frameCount}
+use Rattle.recipe.specs.Frames.{framesOf, frameCount}
 use Rattle.recipe.specs.Reading.{recipeOf}
 use Rattle.recipe.specs.Plain.{Memories}
-use Rattle.recipe_translate.proofs.Translating.{accepts-every-legal, refuses-short-output, accepts-only-legal}
 use Rattle.update_rules.specs.Delivery.{toldAll, delivery, delivered, Delivers}
 use Rattle.update_rules.specs.Updated.{Ready, over, Full, Arrived}
 use Rattle.update_rules.proofs.DemandThree.{delivery-arrives}
 use Rattle.update_deliver.specs.Taken.{firstFrames}
-use Rattle.update.specs.Calls.{Translate, call}
+use Rattle.update.specs.Calls.{Translate}
+use Rattle.update.proofs.Translating.{translate-takes, translate-takes-only, translate-short}
 use Rattle.update.proofs.Taking.{recipe-taken}
 
 -- calls of `can_frame` one after the other are a delivery
@@ -42,29 +42,12 @@ pub demand-three-frames : (q : Recipe) (n : Node) (m : Memories) (steps : List S
 demand-three-frames q n m steps after legal ready full calls =
     delivery-arrives q n m (toldAll steps) after legal ready full (calls-deliver calls)
 
--- ---- what the translator's contract says, by the parts of a call
-
-pub translate-legal : {input output output′ : List ℕ} {t : Translated} → Translate input output t output′ → (q : Recipe) → Legal q
-    → input ≡ printed q → 12 * frameCount q ≤ length output
-    → (t ≡ Frames (frameCount q)) × (output′ ≡ joined (framesOf q) ++ drop (12 * frameCount q) output)
-translate-legal (call κs a r s p) q legal e room = accepts-every-legal κs a r s p q legal e room
-
-translate-short : {input output output′ : List ℕ} {t : Translated} → Translate input output t output′ → (q : Recipe) → Legal q
-    → input ≡ printed q → length output < 12 * frameCount q → t ≡ Refused 26 0
-translate-short (call κs a r s p) q legal e short = refuses-short-output κs a r s p q legal e short .0
-
-translate-only : {input output output′ : List ℕ} {t : Translated} → Translate input output t output′ → (count : ℕ)
-    → t ≡ Frames count → Legal (recipeOf input) × (input ≡ printed (recipeOf input)) × (count ≡ frameCount (recipeOf input))
-translate-only (call κs a r s p) count e =
-    let o = accepts-only-legal κs a r s p count e in
-    (o .0, o .1, o .3)
-
 module _ {input output output′ : List ℕ} {t : Translated} (translates : Translate input output t output′) where
   -- the frames that stand in its output are the recipe's
   pub translated-frames : (q : Recipe) → Legal q → input ≡ printed q → 12 * frameCount q ≤ length output
       → firstFrames (frameCount q) output′ ≡ framesOf q
   translated-frames q legal e room =
-      ap (firstFrames (frameCount q)) (translate-legal translates q legal e room .1)
+      ap (firstFrames (frameCount q)) (translate-takes translates q legal e room .1)
       ∙ recipe-taken q (drop (12 * frameCount q) output) legal
 
   -- a call of the translator on a legal recipe's bytes, with room, and then calls over the frames in its output
@@ -73,7 +56,7 @@ module _ {input output output′ : List ℕ} {t : Translated} (translates : Tran
       → CanFrames (firstFrames (frameCount q) output′) (over n m) steps after
       → (t ≡ Frames (frameCount q)) × Arrived q n m (toldAll steps) after
   demand-three-calls q legal e room n m steps after ready full calls = (
-    translate-legal translates q legal e room .0,
+    translate-takes translates q legal e room .0,
     demand-three-frames q n m steps after legal ready full
         (subst (λ (fs : List (List ℕ)). CanFrames fs (over n m) steps after) (translated-frames q legal e room) calls),
   )
@@ -84,7 +67,7 @@ module _ {input output output′ : List ℕ} {t : Translated} (translates : Tran
     where
       go : (b : Bool) → ltb (length output) (12 * frameCount q) ≡ b → 12 * frameCount q ≤ length output
       go true h =
-          let short = translate-short translates q legal e (ltb-true _ _ h) in
+          let short = translate-short translates q legal e (ltb-true _ _ h) .2 in
           let z : _≡_ {A = ℕ} 0 1 = cc in
           absurd (omega arith)
       go false h = ltb-false _ _ h
@@ -95,11 +78,11 @@ module _ {input output output′ : List ℕ} {t : Translated} (translates : Tran
       → CanFrames (firstFrames count output′) (over n m) steps after
       → Legal (recipeOf input) × (input ≡ printed (recipeOf input)) × Arrived (recipeOf input) n m (toldAll steps) after
   demand-three-accepted count f n m steps after ready full calls =
-      let o = translate-only translates count f in
+      let o = translate-takes-only translates count f in
       let q = recipeOf input in
       let room = had-room q (o .0) (o .1) count f in (
         o .0,
         o .1,
         demand-three-calls q (o .0) (o .1) room n m steps after ready full
-            (subst (λ (c : ℕ). CanFrames (firstFrames c output′) (over n m) steps after) (o .2) calls) .1,
+            (subst (λ (c : ℕ). CanFrames (firstFrames c output′) (over n m) steps after) (o .3) calls) .1,
       )

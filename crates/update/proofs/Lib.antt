@@ -1,4 +1,5 @@
 pub mod Taking
+pub mod Translating
 pub mod Calls
 pub mod Delivering
 pub mod AnyCalls

@@ -25,7 +25,8 @@ use Rattle.update_rules.proofs.Serially.{demand-three-serial}
 use Rattle.update_deliver.specs.Taken.{firstFrames}
 use Rattle.update.specs.Calls.{Translate, Wraps, none, more}
 use Rattle.update.specs.Whole.{ArrivedOnUart}
-use Rattle.update.proofs.Calls.{translate-legal, translated-frames}
+use Rattle.update.proofs.Calls.{translated-frames}
+use Rattle.update.proofs.Translating.{translate-takes}
 
 -- calls of `uart_byte` one after the other feed the bytes
 pub calls-feed : {bytes : List ℕ} {steps : List UartStep} {before after : State} → UartBytes bytes before steps after
@@ -63,7 +64,7 @@ pub demand-three-serial-calls : {input output output′ : List ℕ} {t : Transla
 demand-three-serial-calls translates q legal e room ws wraps n m steps after ready o calls =
     let same = translated-frames translates q legal e room in
     let wrapped = wraps-all (subst (λ (fs : List (List ℕ)). Wraps fs ws) same wraps) (frames-twelve q legal) in (
-      translate-legal translates q legal e room .0,
+      translate-takes translates q legal e room .0,
       demand-three-bytes q n m steps after legal ready o
           (subst (λ (bs : List ℕ). UartBytes bs (over n m) steps after) (ap joined wrapped) calls),
     )
