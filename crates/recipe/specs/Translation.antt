@@ -9,7 +9,7 @@ use Rattle.recipe.specs.declared.Translated.the-variants.{Frames, Refuse
 use Rattle.recipe.specs.Frames.{framesOf, joined, frameCount}
 use Rattle.recipe.specs.Reading.{Stop, atEnd, fault, reading, recipeOf}
 
--- "Refusals name the item's starting byte"; "At the end: 20 no Leave yet, place the length (empty input too)"; else "success reports
+-- "Refusals name the item's starting byte"; "At the end: 20 no Leave yet, place the length (empty input too)"; else "Success reports
 -- the frame count"
 abbrev pub answerAt : Stop → ℕ → ℕ → Translated
 answerAt (fault number place) size count = Refused number place
