@@ -122,6 +122,8 @@ impl Found {
                 Token::Symbol(s) if scope.names.contains_key(s) => self.look_up(scope, s),
                 Token::Qualified(alias, name) => match scope.aliases.get(alias) {
                     Some(path) => self.things.extend(repo.named(path, name)?),
+                    // `Memory.Kept`: a variant of a type
+                    None if scope.names.contains_key(alias) => self.look_up(scope, alias),
                     None => {
                         self.unknown.insert(format!("{alias}.{name}"));
                     }
