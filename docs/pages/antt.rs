@@ -136,16 +136,17 @@ pub fn parse(text: &str) -> File {
             continue;
         } else if let Some((name, kind, public)) = declared(&first) {
             let headers = open.iter().map(|(_, h)| *h).collect();
-            let parts = parts_of(kind, &item);
-            file.declarations.push(Declaration {
+            let mut d = Declaration {
                 name,
                 kind,
                 public,
                 headers,
                 head: item,
                 equations: Vec::new(),
-                parts,
-            });
+                parts: Vec::new(),
+            };
+            d.parts = d.split().1.into_iter().flat_map(|part| part_names(&part[0])).collect();
+            file.declarations.push(d);
         } else {
             let name = first.split_whitespace().next().unwrap_or("").to_string();
             let at = file
@@ -180,21 +181,11 @@ fn declared(line: &str) -> Option<(String, Kind, bool)> {
     (typed || matches!(kind, Kind::Data | Kind::Record)).then_some((name, kind, public))
 }
 
-/// The constructors or fields that stand below `data .. where` or `record .. where`.
-fn parts_of(kind: Kind, item: &[Line]) -> Vec<String> {
-    if !matches!(kind, Kind::Data | Kind::Record) {
-        return Vec::new();
-    }
-    let Some(end) = item.iter().position(|l| l.text.ends_with("where")) else { return Vec::new() };
-    let Some(first) = item.get(end + 1) else { return Vec::new() };
-    let depth = first.indent;
-    let own = item[end + 1..].iter().filter(|l| l.indent == depth);
-    own.flat_map(|l| {
-        let names = l.text.split(" : ").next().unwrap_or("").trim_start();
-        let names = names.strip_prefix("pub ").unwrap_or(names);
-        names.split_whitespace().map(str::to_string).collect::<Vec<_>>()
-    })
-    .collect()
+/// The constructors or fields that a line names: `pub x y : ..`
+fn part_names(line: &Line) -> Vec<String> {
+    let names = line.text.split(" : ").next().unwrap_or("").trim_start();
+    let names = names.strip_prefix("pub ").unwrap_or(names);
+    names.split_whitespace().map(str::to_string).collect()
 }
 
 /// The words of some lines.

@@ -49,6 +49,10 @@ pub fn page(repo: &Repo, cited: &BTreeSet<Citation>) -> Result<String, String> {
         let part = rests(&mut closure, cited, Some(question))?;
         row(&mut out, repo, &format!("question {question}"), &part);
     }
+    out.push_str(&format!(
+        "\nOf the lines of all definitions, types and contracts: {}.\n",
+        by_kind(repo, &all.below)
+    ));
     if !closure.unknown.is_empty() {
         return Err(closure.unknown.iter().cloned().collect::<Vec<_>>().join("\n"));
     }
@@ -64,6 +68,15 @@ pub fn page(repo: &Repo, cited: &BTreeSet<Citation>) -> Result<String, String> {
         let _ = writeln!(out, "| {path} | {} |", names.join(", "));
     }
     Ok(out)
+}
+
+/// How many lines there are of each kind.
+fn by_kind(repo: &Repo, things: &BTreeSet<Thing>) -> String {
+    let mut sums: BTreeMap<&str, usize> = BTreeMap::new();
+    for e in things.iter().filter_map(|t| entry(repo, t, false)) {
+        *sums.entry(e.kind).or_default() += e.lines;
+    }
+    sums.iter().map(|(kind, lines)| format!("{kind} {lines}")).collect::<Vec<_>>().join(", ")
 }
 
 fn own(things: &BTreeSet<Thing>) -> BTreeSet<Thing> {
@@ -119,6 +132,23 @@ pub fn outside(repo: &Repo, cited: &BTreeSet<Citation>) -> Result<String, String
     for thing in &all.below {
         if matches!(thing, Thing::Declared(file, _) if is_proof(file)) {
             line(&mut out, repo, thing);
+        }
+    }
+    out.push_str("\nWhat the cited statements of one file rest on, and no others:\n");
+    let files: BTreeSet<&str> = cited.iter().map(|c| c.file.as_str()).collect();
+    for file in files {
+        let others = cited.iter().filter(|c| c.file != file).cloned().collect();
+        let without = rests(&mut closure, &others, None)?;
+        let alone: BTreeSet<Thing> = own(&all.below).difference(&without.below).cloned().collect();
+        if !alone.is_empty() {
+            let names: Vec<String> =
+                alone.iter().filter_map(|t| entry(repo, t, false)).map(|e| e.name).collect();
+            let _ = writeln!(
+                out,
+                "  {file}: {} lines: {}",
+                lines_of(repo, &alone, false),
+                names.join(" ")
+            );
         }
     }
     Ok(out)

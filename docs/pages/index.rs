@@ -1,22 +1,25 @@
-//! docs/INDEX.md: every sentence of document 01 beside what answers it. Checked are its names, the quotations in the comments of crates/, and,
-//! where the document is at hand, that no sentence of it is missing.
+//! docs/INDEX.md: every sentence of document 01 beside what answers it. Checked are its names, the quotations in the comments of
+//! crates/, and, where the document is at hand, that no sentence of it is missing.
 
+use crate::answers::theorems;
+use crate::antt::Kind;
 use crate::hash::sha256;
 use crate::prose::{parts, spans, Part};
 use crate::repo::{is_proof, Repo};
-use crate::words::Known;
+use crate::words::{is_name, Known};
 use std::path::Path;
 
-/// Checks the index and the quotations. `documents` is the folder of the source documents, which need not be there.
+/// Checks the index and the quotations. `protocol` is what second/PROTOCOL.md says, which a few comments quote; `documents` is the folder
+/// of the source documents, which need not be there.
 pub fn check(
     repo: &Repo,
     root: &Path,
-    index: &str,
-    sources: &str,
+    pages: [&str; 3],
     documents: &Path,
 ) -> Result<String, Vec<String>> {
+    let [index, sources, protocol] = pages;
     let mut faults = names(repo, root, index);
-    let quoted = Quoted::of(&[index, sources]);
+    let quoted = Quoted::of(&[index, sources]).with(protocol);
     let mut count = 0;
     for (file, text) in repo.texts.iter().filter(|(f, _)| !is_proof(f)) {
         let mark = if file.ends_with(".rt") { "//" } else { "--" };
@@ -29,28 +32,32 @@ pub fn check(
             }
         }
     }
-    let mut said =
-        vec![format!("{count} quotations in comments, each in docs/INDEX.md or docs/SOURCES.md")];
+    let mut said = vec![format!("{count} quotations in comments: each is in docs/INDEX.md, docs/SOURCES.md or second/PROTOCOL.md")];
     for source in listed(sources) {
-        match std::fs::read(documents.join(&source.file)) {
-            Ok(bytes) if sha256(&bytes) == source.hash => {
-                let text = String::from_utf8_lossy(&bytes).into_owned();
-                let lacking = if source.whole {
-                    sentences(&text).into_iter().filter(|s| !Quoted::of(&[index]).has(s)).collect()
-                } else {
-                    Vec::new()
-                };
-                said.push(format!("{}: looked at, {} lacking", source.file, lacking.len()));
-                faults.extend(
-                    lacking.iter().map(|s| format!("docs/INDEX.md lacks of {}: {s}", source.file)),
-                );
-            }
-            Ok(_) => said.push(format!(
+        let Ok(bytes) = std::fs::read(documents.join(&source.file)) else {
+            said.push(format!("{}: not at hand, not looked at", source.file));
+            continue;
+        };
+        if sha256(&bytes) != source.hash {
+            said.push(format!(
                 "{}: another version than docs/SOURCES.md names, not looked at",
                 source.file
-            )),
-            Err(_) => said.push(format!("{}: not at hand, not looked at", source.file)),
+            ));
+            continue;
         }
+        let text = String::from_utf8_lossy(&bytes).into_owned();
+        let before = faults.len();
+        if source.whole {
+            let has = Quoted::of(&[index]);
+            let lacking = sentences(&text).into_iter().filter(|s| !has.has(s));
+            faults.extend(lacking.map(|s| format!("docs/INDEX.md lacks of {}: {s}", source.file)));
+        }
+        let whole = Quoted::default().with(&text);
+        let made_up = fragments(sources, &source.name).into_iter().filter(|f| !whole.has(f));
+        faults.extend(
+            made_up.map(|f| format!("docs/SOURCES.md: {} does not say \"{f}\"", source.file)),
+        );
+        said.push(format!("{}: looked at, {} wrong", source.file, faults.len() - before));
     }
     if faults.is_empty() {
         Ok(said.join("\n") + "\n")
@@ -59,27 +66,36 @@ pub fn check(
     }
 }
 
-/// What is wrong with the names that the index quotes.
+/// What is wrong with the names that the index quotes: one that no file has, or that is no theorem, no definition or no code though
+/// it stands in that column.
 fn names(repo: &Repo, root: &Path, index: &str) -> Vec<String> {
     let known = Known::of(repo);
     let mut faults = Vec::new();
     for part in parts(index) {
-        if let Part::Table { header, rows } = part {
-            for row in rows {
-                if row.cells.len() != header.len() {
-                    faults.push(format!(
-                        "docs/INDEX.md:{}: {} cells below {} columns",
-                        row.line,
-                        row.cells.len(),
-                        header.len()
-                    ));
-                }
-                for span in row.cells.iter().skip(1).flat_map(|c| spans(c, row.line)) {
-                    faults.extend(
-                        known
-                            .fault(root, &span.text)
-                            .map(|w| format!("docs/INDEX.md:{}: {w}", span.line)),
-                    );
+        let Part::Table { header, rows } = part else { continue };
+        for row in rows {
+            let at = format!("docs/INDEX.md:{}", row.line);
+            if row.cells.len() != header.len() {
+                faults.push(format!(
+                    "{at}: {} cells below {} columns",
+                    row.cells.len(),
+                    header.len()
+                ));
+            }
+            for (column, cell) in header.iter().zip(&row.cells).skip(1) {
+                for span in spans(cell, row.line) {
+                    if let Some(fault) = known.fault(root, &span.text) {
+                        faults.push(format!("{at}: {fault}"));
+                    } else if is_name(&span.text)
+                        && known.has(&span.text)
+                        && !fits(repo, column, &span.text)
+                    {
+                        faults.push(format!(
+                            "{at}: `{}` is no {}",
+                            span.text,
+                            column.to_lowercase()
+                        ));
+                    }
                 }
             }
         }
@@ -87,8 +103,29 @@ fn names(repo: &Repo, root: &Path, index: &str) -> Vec<String> {
     faults
 }
 
-/// A row of docs/SOURCES.md: a document's file and hash, and whether the index has every sentence of it.
+/// Whether a name is what its column says.
+fn fits(repo: &Repo, column: &str, name: &str) -> bool {
+    let coded = || {
+        repo.code
+            .values()
+            .flat_map(|c| &c.items)
+            .any(|i| i.name == name || i.parts.iter().any(|p| p == name))
+    };
+    let told = || {
+        let all = repo.antt.iter().flat_map(|(f, p)| p.declarations.iter().map(move |d| (f, d)));
+        let mut own = all.filter(|(_, d)| d.name == name || d.parts.iter().any(|p| p == name));
+        own.any(|(f, d)| !is_proof(f) || d.kind != Kind::Plain)
+    };
+    match column {
+        "Theorem" => !theorems(repo, name).is_empty(),
+        "Code" => coded(),
+        _ => told() || coded(),
+    }
+}
+
+/// A document of docs/SOURCES.md: its short name, file and hash, and whether the index has every sentence of it.
 struct Source {
+    name: String,
     file: String,
     hash: String,
     whole: bool,
@@ -99,48 +136,73 @@ fn listed(sources: &str) -> Vec<Source> {
     for part in parts(sources) {
         if let Part::Table { header, rows } = part {
             let column = |name: &str| header.iter().position(|h| h == name);
-            let (Some(file), Some(hash), Some(used)) =
-                (column("File"), column("SHA-256"), column("Used"))
-            else {
-                continue;
-            };
-            for row in rows {
-                let whole = row.cells[used] == "all";
-                found.push(Source {
-                    file: row.cells[file].clone(),
-                    hash: row.cells[hash].clone(),
-                    whole,
-                });
+            let columns = (column("Document"), column("Used"), column("File"), column("SHA-256"));
+            let (Some(name), Some(used), Some(file), Some(hash)) = columns else { continue };
+            found.extend(rows.iter().map(|r| Source {
+                name: r.cells[name].clone(),
+                file: r.cells[file].clone(),
+                hash: r.cells[hash].clone(),
+                whole: r.cells[used] == "all",
+            }));
+        }
+    }
+    found
+}
+
+/// The fragments that docs/SOURCES.md has of a document.
+fn fragments(sources: &str, name: &str) -> Vec<String> {
+    let mut found = Vec::new();
+    for part in parts(sources) {
+        if let Part::Table { header, rows } = part {
+            if header.first().is_some_and(|h| h == "Fragment") {
+                let own = rows.iter().filter(|r| r.cells.get(1).is_some_and(|c| c == name));
+                found.extend(own.map(|r| r.cells[0].clone()));
             }
         }
     }
     found
 }
 
-/// The quoted sentences of some pages: the first cells of their tables.
+/// What documents say, one behind the other.
+#[derive(Default)]
 pub struct Quoted {
     text: String,
 }
 
 impl Quoted {
+    /// The quoted sentences and fragments of some pages, and the titles above them.
     pub fn of(pages: &[&str]) -> Quoted {
-        let mut text = String::new();
+        let mut quoted = Quoted::default();
         for part in pages.iter().flat_map(|p| parts(p)) {
-            if let Part::Table { rows, .. } = part {
-                for row in rows {
-                    text.push_str(&plain(row.cells.first().map_or("", String::as_str)));
-                    text.push('\n');
+            match part {
+                Part::Heading(title) => quoted = quoted.with(&title),
+                Part::Table { header, rows }
+                    if matches!(header[0].as_str(), "Sentence" | "Fragment") =>
+                {
+                    for row in rows {
+                        quoted = quoted.with(row.cells.first().map_or("", String::as_str));
+                    }
                 }
+                _ => {}
             }
         }
-        Quoted { text }
+        quoted
+    }
+
+    /// With this text behind.
+    pub fn with(mut self, text: &str) -> Quoted {
+        self.text.push_str(&plain(text));
+        self.text.push(' ');
+        self
     }
 
     /// Whether a quotation is there: its pieces between `..`, one behind the other.
     pub fn has(&self, quotation: &str) -> bool {
         let mut from = 0;
-        for piece in quotation.split("..").map(plain).filter(|p| !p.is_empty()) {
-            match self.text[from..].find(&piece) {
+        for piece in quotation.split("..").map(plain) {
+            let piece = piece
+                .trim_matches(|c: char| c.is_whitespace() || matches!(c, '.' | ',' | ';' | ':'));
+            match self.text[from..].find(piece) {
                 Some(at) => from += at + piece.len(),
                 None => return false,
             }
@@ -149,15 +211,11 @@ impl Quoted {
     }
 }
 
-/// A text without what marks it, with one blank between words, and no punctuation at its ends.
+/// A text without what marks it, with one blank between words.
 fn plain(text: &str) -> String {
-    let bare: String = text
-        .chars()
-        .filter(|c| !matches!(c, '*' | '`' | '"' | '\\'))
-        .map(|c| if c == '|' { ' ' } else { c })
-        .collect();
-    let one = bare.split_whitespace().collect::<Vec<_>>().join(" ");
-    one.trim_matches(|c: char| c.is_whitespace() || matches!(c, '.' | ',' | ';' | ':')).to_string()
+    let bare = text.chars().filter(|c| !matches!(c, '*' | '`' | '"' | '\\'));
+    let bare: String = bare.map(|c| if c == '|' { ' ' } else { c }).collect();
+    bare.split_whitespace().collect::<Vec<_>>().join(" ")
 }
 
 /// What the comments of a file quote, with the line where the comment begins; a quotation may run over lines.
@@ -231,11 +289,24 @@ mod tests {
             "-- a \"first one\", and \"a second\n-- one .. here\"\nx : \"no\"\n// -- \"n\"\n";
         let found: Vec<String> = quotations(text, "--").into_iter().map(|(_, q)| q).collect();
         assert_eq!(found, ["first one", "a second one .. here"]);
-        let quoted = Quoted::of(&["| S | D |\n|---|---|\n| The *first* one. And `a` second one, not there but here. | x |\n"]);
+        let quoted = Quoted::of(&["| Sentence | D |\n|---|---|\n| The *first* one. And `a` second one, | x |\n| not there but here. | y |\n"]);
         assert!(quoted.has("first one"));
         assert!(quoted.has("a second one .. here"));
         assert!(!quoted.has("here .. a second one"));
         assert!(!quoted.has("a third one"));
+    }
+
+    #[test]
+    fn names_fit_their_columns() {
+        let mut repo = Repo::default();
+        repo.add("x/src/lib.rt".into(), "pub fn f(a: u8) -> u8 {\n    a\n}\n".into());
+        repo.add("x/specs/S.antt".into(), "abbrev pub one : ℕ\none = 1\n".into());
+        repo.add("x/proofs/P.antt".into(), "pub holds : one ≡ 1\nholds = refl\n".into());
+        let head = "| Sentence | Definition | Code | Theorem |\n|---|---|---|---|\n";
+        let faults = |row: &str| names(&repo, Path::new("/nowhere"), &format!("{head}{row}")).len();
+        assert_eq!(faults("| s | `one` | `f` | `holds` |\n"), 0);
+        assert_eq!(faults("| s | `holds` | `one` | `f` |\n"), 3);
+        assert_eq!(faults("| s | `two` | | |\n"), 1);
     }
 
     #[test]

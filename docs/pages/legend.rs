@@ -65,7 +65,7 @@ const ENTRIES: &[(&str, &str)] = &[
         "the first of a pair, and the rest; of arguments `a .0` is the first, `a .1 .0` the second. Of an address, module or \
          group `.0` is its number",
     ),
-    ("′ ₁ ₂", "part of a name: by use `x′` is x afterwards, or a second x, and `x₁` is x in between"),
+    ("′ ₀ ₁ ₂ ₃", "part of a name: by use `x′` is x afterwards, or a second x, and `x₁` is x in between"),
     ("κ", "part of the name `κs`"),
     ("Lfts", "`κs : Lfts k`: for how long each of k slices is lent; a theorem holds for all"),
     ("signature", "of a function: its parameters and result, as the code declares them"),

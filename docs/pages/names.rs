@@ -122,6 +122,8 @@ impl Found {
                 Token::Symbol(s) if scope.names.contains_key(s) => self.look_up(scope, s),
                 Token::Qualified(alias, name) => match scope.aliases.get(alias) {
                     Some(path) => self.things.extend(repo.named(path, name)?),
+                    // `Memory.Kept`: a variant of a type
+                    None if scope.names.contains_key(alias) => self.look_up(scope, alias),
                     None => {
                         self.unknown.insert(format!("{alias}.{name}"));
                     }
@@ -280,14 +282,56 @@ pub fn in_code(repo: &Repo, file: &str, at: usize) -> Result<Found, String> {
     let scope = Scope::of_code(repo, file)?;
     let item = repo.item(file, at);
     let text: Vec<&str> = item.lines.iter().map(|l| l.text.as_str()).collect();
-    let tokens = tokens(&text.join("\n"));
+    let mut tokens = tokens(&text.join("\n"));
     let plain = PLAIN_TYPES.iter().map(|t| t.to_string());
     let parts = item.parts.iter().filter(|p| !scope.names.contains_key(*p)).cloned();
-    let names: Vec<String> = plain.chain(parts).collect();
+    let names: Vec<String> = plain.chain(parts).chain(lifetimes(&tokens)).collect();
     let mut found = Found::default();
+    let krate = file.split('/').next().unwrap_or("");
+    for path in pathed(&mut tokens) {
+        match repo.passed(krate, &path) {
+            Some(thing) => {
+                found.things.insert(thing);
+            }
+            None => {
+                found.unknown.insert(path.join("::"));
+            }
+        }
+    }
     found.take(repo, &scope, &tokens, &names)?;
     found.things.remove(&Thing::Coded(file.into(), at));
     Ok(found)
+}
+
+/// The names of lifetimes: `'a`.
+fn lifetimes(tokens: &[Token]) -> Vec<String> {
+    let marked = tokens.windows(2).filter(|w| w[0].is("'"));
+    marked.filter_map(|w| w[1].name()).map(str::to_string).collect()
+}
+
+/// Takes the paths `a::B` out of some words.
+fn pathed(tokens: &mut Vec<Token>) -> Vec<Vec<String>> {
+    let mut found = Vec::new();
+    let mut kept: Vec<Token> = Vec::new();
+    let mut i = 0;
+    while i < tokens.len() {
+        let mut path = Vec::new();
+        while let Some(name) = tokens.get(i + 2 * path.len()).and_then(Token::name) {
+            path.push(name.to_string());
+            if !tokens.get(i + 2 * path.len() - 1).is_some_and(|t| t.is("::")) {
+                break;
+            }
+        }
+        if path.len() > 1 {
+            i += 2 * path.len() - 1;
+            found.push(path);
+        } else {
+            kept.push(tokens[i].clone());
+            i += 1;
+        }
+    }
+    *tokens = kept;
+    found
 }
 
 #[cfg(test)]
@@ -379,6 +423,21 @@ pub q : ((same : ℕ) → help) → same
         assert!(found.things.contains(&Thing::Coded("x/src/lib.rt".into(), 0)));
         assert!(found.things.contains(&Thing::Declared("x/specs/S.antt".into(), 1)));
         assert!(found.things.contains(&Thing::Kit("lib.N".into(), "_≡_".into())));
+    }
+
+    #[test]
+    fn a_signature_may_have_paths_and_lifetimes() {
+        let mut r = repo();
+        r.add(
+            "y/src/lib.rt".into(),
+            "pub fn g<'a>(t: x::T, s: &'a mut [u8]) -> &'a [u8] {\n    s\n}\n".into(),
+        );
+        let found = in_code(&r, "y/src/lib.rt", 0).unwrap();
+        assert_eq!(
+            found.things.into_iter().collect::<Vec<_>>(),
+            [Thing::Coded("x/src/lib.rt".into(), 0)]
+        );
+        assert!(found.unknown.is_empty());
     }
 
     #[test]

@@ -5,7 +5,7 @@ use mathlib.Core.List.{List, [], _∷_, _++_}
 use lib.Dec.{eqb, leb}
 use lib.ListN.{getD, drop}
 
--- "A HAPCAN frame is 12 bytes: 12 bits of type, 4 flag bits, module, group, data D0 to D7. The type's top eight bits are byte 1":
+-- "A HAPCAN frame is 12 bytes: 12 bits of type, 4 flag bits .., module, group, data D0 to D7. The type's top eight bits are byte 1":
 -- its low four are the upper half of byte 2
 abbrev pub typeOf : List ℕ → ℕ
 typeOf f = getD f 0 0 * 16 + getD f 1 0 / 16

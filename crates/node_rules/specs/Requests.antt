@@ -88,7 +88,7 @@ abbrev pub areOwn : Plate → Module → Group → Bool
 areOwn p m g = eqb (m .0) (p .own .0) && eqb (g .0) (p .group .0)
 
 -- ""Group" means D2 is 0x00 and D3 is 0x00 or the own group; "node" means D2, D3 are the own numbers."
--- "0x010, frame module and group both 0x00; 0x020 [0x030, 0x040], frame module and group the own numbers"
+-- "0x010, frame module and group both 0x00; 0x020, frame module and group the own numbers"; 0x030 and 0x040 "own numbers in the frame"
 abbrev pub isFor : Addressing → Plate → List ℕ → Bool
 isFor AsGroup p f = eqb (D 2 f) 0x00 && (eqb (D 3 f) 0x00 || eqb (D 3 f) (p .group .0))
 isFor AsNode p f = areOwn p (aModule (D 2 f)) (aGroup (D 3 f))

@@ -13,7 +13,7 @@ addressFrame m g command a = 0x03 ∷ 0x00 ∷ m ∷ g ∷ (addressBytes a ++ (0
 abbrev pub dataFrame : ℕ → ℕ → List ℕ → List ℕ
 dataFrame m g cells = 0x04 ∷ 0x00 ∷ m ∷ g ∷ cells
 
--- "Leave: one 0x020"
+-- "0x0F Leave .. one 0x020"
 abbrev pub leaveFrame : ℕ → ℕ → List ℕ
 leaveFrame m g = 0x02 ∷ 0x00 ∷ m ∷ g ∷ replicate 8 0xFF
 
@@ -22,7 +22,7 @@ unfoldable pub writes : ℕ → ℕ → ℕ → ℕ → List ℕ → List (List 
 writes m g zero a cells = []
 writes m g (suc n) a cells = addressFrame m g 0x02 a ∷ dataFrame m g (take 8 cells) ∷ writes m g n (a + 8) (drop 8 cells)
 
--- "Block 18: erase, then 8 writes", "Row 2"
+-- "0x02 Block .. 18: erase, then 8 writes upward", "0x03 Row .. 2"
 unfoldable pub itemFrames : ℕ → ℕ → Item → List (List ℕ)
 itemFrames m g (block a cells) = addressFrame m g 0x03 a ∷ dataFrame m g (replicate 8 0xFF) ∷ writes m g 8 a cells
 itemFrames m g (row a cells) = addressFrame m g 0x02 a ∷ dataFrame m g cells ∷ []

@@ -8,7 +8,7 @@ use lib.ListN.{length}
 use Rattle.base.specs.Parts.{Bytes}
 use Rattle.memory_address.specs.Rule.{legalFlash, legalEeprom}
 
--- "0x02 Block: address 3, data 64", "0x03 Row: EEPROM address 3, data 8"
+-- "0x02 Block .. address 3, data 64", "0x03 Row .. EEPROM address 3, data 8"
 pub data Item : Type 0 where
   block row : ℕ → List ℕ → Item
 
@@ -47,6 +47,6 @@ unfoldable pub printedItems : List Item → List ℕ
 printedItems [] = []
 printedItems (i ∷ is) = printedItem i ++ printedItems is
 
--- "0x01 Open: module, group", "Open is first and once, Leave last and once", "0x0F Leave: none"
+-- "0x01 Open .. module, group", "Open is first and once, Leave last and once", "0x0F Leave .. none"
 unfoldable pub printed : Recipe → List ℕ
 printed r = 0x01 ∷ r .moduleNumber ∷ r .groupNumber ∷ (printedItems (r .items) ++ (0x0F ∷ []))

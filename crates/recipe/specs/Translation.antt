@@ -18,7 +18,7 @@ abbrev pub translatedValue : Translated → ℕ
 translatedValue (Frames count) = count
 translatedValue (Refused number place) = place
 
--- "Refusals name the item's starting byte"; "At the end: 20 no Leave yet, place the length (empty input too)"; else "success reports
+-- "Refusals name the item's starting byte"; "At the end: 20 no Leave yet, place the length (empty input too)"; else "Success reports
 -- the frame count"
 abbrev pub answerAt : Stop → ℕ → ℕ → Translated
 answerAt (fault number place) size count = Refused number place

@@ -9,7 +9,7 @@ use Rattle.recipe.specs.Faults.{kindOf}
 use Rattle.recipe.specs.Frames.{leaveFrame, itemsFrames, joined}
 use Rattle.recipe.specs.Reading.{sizeOf, itemsAt}
 
--- how many frames an item of a kind becomes: "Block 18", "Row 2", "Leave: one 0x020", Open none
+-- how many frames an item of a kind becomes: "0x02 Block .. 18", "0x03 Row .. 2", "0x0F Leave .. one 0x020", Open none
 abbrev pub framesOfKind : ℕ → ℕ
 framesOfKind kind = cond (eqb kind 0x02) 18 (cond (eqb kind 0x03) 2 (cond (eqb kind 0x0F) 1 0))
 
