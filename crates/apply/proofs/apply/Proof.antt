@@ -38,7 +38,7 @@ print-refusal-requires c κs =
     let start = c .before .before .before .before .before .before .before .before .before .before .before .before .before .before .before
     .before in
     let d = c .before .before .before .before .before .before .before .deliver in
-    step-has-room (start .args .recipe .now) _ _ _ _ _ (search needs) (search needs) (d .ensures) (start .pre) _ _ (c .before .translated .given .1)
+    step-has-room _ _ _ _ _ _ (d .ensures) (start .pre) (search needs) (search needs) _ _ (c .before .translated .given .1)
 
 enum-known-translated-2 : tie.Need-enum-known-translated-2
 enum-known-translated-2 c = search needs
@@ -50,7 +50,7 @@ print-answers-requires : tie.Need-print-answers-requires
 print-answers-requires c κs =
     let d = c .before .before .before .before .before .before .before .before .deliver in
     let t = c .before .before .translated2 in
-    let told = step-tells-all _ _ _ _ _ _ (search needs) (search needs) (d .ensures) (t .given .0 .0) (t .given .1) in
+    let told = step-tells-all _ _ _ _ _ _ (d .ensures) (t .given .0 .0) (t .given .1) in
     omega (arith, told, d .kept .1 .1 .1 .1 .1 .0)
 
 returns : tie.Need-returns
