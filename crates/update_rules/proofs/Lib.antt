@@ -9,3 +9,4 @@ pub mod Prefixes
 pub mod Interrupted
 pub mod Serially
 pub mod Witnesses
+pub mod BlockWitness
