@@ -29,8 +29,8 @@ can-frame-stays {n} {f} {flash} {eeprom} c =
     )
 
 -- a byte
-pub uart-byte-stays : {n : Node} {b : ℕ} {flash eeprom flash′ eeprom′ : List ℕ} {r : UartAnswer} → UartByte n b flash eeprom r flash′ eeprom′
-    → (r .node .plate ≡ n .plate) × (r .node .choices ≡ n .choices)
+pub uart-byte-stays : {n : Node} {b : ℕ} {flash eeprom flash′ eeprom′ : List ℕ} {r : UartAnswer}
+    → UartByte n b flash eeprom r flash′ eeprom′ → (r .node .plate ≡ n .plate) × (r .node .choices ≡ n .choices)
 uart-byte-stays {n} {b} {flash} {eeprom} c =
     let same = uart-stays n b flash eeprom in (
       ap (λ (x : UartStep). x .answer .node .plate) (uart-byte-said c) ∙ same .0,

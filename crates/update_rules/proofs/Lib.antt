@@ -10,3 +10,4 @@ pub mod Interrupted
 pub mod Serially
 pub mod ToldSerially
 pub mod Witnesses
+pub mod BlockWitness
