@@ -1,11 +1,12 @@
--- What document 01 says of a fresh node, of an illegal staged command, of flags, lengths and deaf modes, and of two replies on UART, each
--- in its own words and numbers. Examples are over blank memories and hold by computing.
+-- What document 01 says of a fresh node, of an illegal staged command, of flags, lengths and deaf modes, of two replies on UART and of the
+-- own numbers, each in its own words and numbers. Examples are over blank memories and hold by computing.
 -- Assumes nothing.
 use mathlib.Core.Path.{_≡_, refl}
 use mathlib.Core.Bool.{Bool, true, false, cond}
-use mathlib.Core.List.{List, [], _∷_, _++_}
+use mathlib.Core.List.{List, [], _∷_, _++_, map}
 use Prim.Native.Nat.{ℕ}
 use lib.ListN.{take, replicate}
+use Rattle.base.specs.Parts.{patch, listed}
 use Rattle.memory_address.specs.declared.FlashAddress.{FlashAddress}
 use Rattle.memory_address.specs.declared.EepromPlace.{EepromPlace}
 use Rattle.memory_address.specs.declared.Address.{Address}
@@ -13,6 +14,8 @@ use Rattle.memory_address.specs.declared.Address.the-variants.{Flash, Eeprom}
 use Rattle.memory_address.specs.Rule.{ruled, legalFlash, legalEeprom}
 use Rattle.memory_address.proofs.Laws.{flash-ruled, eeprom-ruled}
 use Rattle.memory_address.proofs.BothSides.{Exactly, flashAt, eepromAt, FlashRow, EepromRow, Block, read-legal, write-legal, erase-legal}
+use Rattle.memory_leaves.specs.Leaves.{eepromCellsAfter}
+use Rattle.memory_cells.specs.Memory.{eepromWritten}
 use Rattle.frame_rules.specs.Wrapping.{wrappedOf, rightlyWrapped}
 use Rattle.node_rules.specs.declared.Pin.the-variants.{CanOnly, CanAndUart}
 use Rattle.node_rules.specs.declared.Staged.{Staged}
@@ -22,8 +25,9 @@ use Rattle.node_rules.specs.declared.Node.{Node}
 use Rattle.node_rules.specs.Record.{heldIn, legalStaged, tidied, freshNode}
 use Rattle.node_rules.specs.Requests.{handledTypes, found}
 use Rattle.node_rules.specs.Outcomes.{decided}
-use Rattle.node_rules.specs.Step.{done, canStep}
+use Rattle.node_rules.specs.Step.{Step, done, canStep}
 use Rattle.node_rules.specs.Uart.{heldAfterBad, uartStep}
+use Rattle.node_rules.specs.Runs.{State, state, endOf, behindFrame, framesIn}
 use Rattle.node_rules.proofs.Reached.{node, flash, eeprom}
 use Rattle.node_rules.proofs.Refusing.{Row, onCan, onUart, onBoth, AllRefused, allButStop, writing, asking, telling}
 
@@ -233,3 +237,29 @@ pub two-on-uart : uartStep (node CanAndUart (Normal true) (allButStop (asking 0x
     }
 unfolding uartStep tidied heldIn found handledTypes done wrappedOf rightlyWrapped
 two-on-uart = refl
+
+-- ---- "copies own numbers from EEPROM; they stay until the next restart, whatever is written meanwhile"
+
+-- to the numbers 05, 0A: a row of EEPROM over the cells of the own numbers, 11 and 22, and the row behind it
+abbrev overNumbers : List (List ℕ)
+overNumbers =
+    telling 0x03 0x00 0x05 0x0A 0xF0 0x00 0x20 0x02 ∷
+    (0x04 ∷ 0x00 ∷ 0x05 ∷ 0x0A ∷ 0x01 ∷ 0x02 ∷ 0x03 ∷ 0x04 ∷ 0x05 ∷ 0x06 ∷ 0x11 ∷ 0x22 ∷ []) ∷
+    telling 0x03 0x00 0x05 0x0A 0xF0 0x00 0x28 0x02 ∷
+    (0x04 ∷ 0x00 ∷ 0x05 ∷ 0x0A ∷ 0x07 ∷ 0x08 ∷ 0x09 ∷ 0x0A ∷ 0x0B ∷ 0x0C ∷ 0x0D ∷ 0x0E ∷ []) ∷ []
+
+-- handed to node 05, 0A over blank memories
+abbrev toldSo : List Step
+toldSo = framesIn overNumbers (state (node CanOnly (Programming Nothing) []) flash eeprom)
+
+abbrev then : State
+then = endOf behindFrame (state (node CanOnly (Programming Nothing) []) flash eeprom) toldSo
+
+-- every frame is done, the later data frame too; the node keeps its numbers, and takes no frame for those in EEPROM
+pub numbers-stay : (map (λ (s : Step). s .answer .number) toldSo ≡ 0 ∷ 0 ∷ 0 ∷ 0 ∷ [])
+    × (listed (then .eeprom) 0x20 16
+    ≡ 0x01 ∷ 0x02 ∷ 0x03 ∷ 0x04 ∷ 0x05 ∷ 0x06 ∷ 0x11 ∷ 0x22 ∷ 0x07 ∷ 0x08 ∷ 0x09 ∷ 0x0A ∷ 0x0B ∷ 0x0C ∷ 0x0D ∷ 0x0E ∷ [])
+    × (then .node .plate .own .0 ≡ 0x05) × (then .node .plate .group .0 ≡ 0x0A)
+    × (canStep (then .node) (telling 0x04 0x00 0x11 0x22 0x00 0x00 0x00 0x00) (then .flash) (then .eeprom) .answer .number ≡ 7)
+unfolding canStep tidied heldIn decided found handledTypes done ruled eepromWritten eepromCellsAfter patch
+numbers-stay = (refl, refl, refl, refl, refl)
