@@ -10,18 +10,12 @@ use lib.ListN.{length, getD, take, drop, replicate}
 use borrow.Author.Tests.{eq-eqb, ne-eqb, le-leb, lt-leb}
 use Rattle.base.specs.Parts.{sumOf}
 use Rattle.frame_rules.specs.Frame.{identifierOf, headOf, hapcanOf}
+use Rattle.frame_rules.specs.Said.{identifierWith, frameWith, upperThree, Framed}
 use Rattle.frame_rules.specs.Wrapping.{rightlyWrapped}
 use Rattle.frame_rules.specs.Numbers.{toHapcanNumber, toCanNumber, wrapNumber, unwrapNumber}
 use Rattle.frame_rules.proofs.Wrapped.{right-says}
 
 -- ---- "type times 131,072, plus flag times 65,536, plus module times 256, plus group"
-
--- these fields as an identifier, and as a frame's first four bytes with the data behind them
-abbrev pub identifierWith : ℕ → ℕ → ℕ → ℕ → ℕ
-identifierWith t flag m g = t * 131072 + flag * 65536 + m * 256 + g
-
-abbrev pub frameWith : ℕ → ℕ → ℕ → ℕ → List ℕ → List ℕ
-frameWith t flag m g d = t / 16 ∷ (t % 16 * 16 + flag) ∷ m ∷ g ∷ d
 
 four : {a b c e a′ b′ c′ e′ : ℕ} (d : List ℕ) → a ≡ a′ → b ≡ b′ → c ≡ c′ → e ≡ e′
     → _≡_ {A = List ℕ} (a ∷ b ∷ c ∷ e ∷ d) (a′ ∷ b′ ∷ c′ ∷ e′ ∷ d)
@@ -62,10 +56,6 @@ to-hapcan-numbers i d room = (
   λ r h l. simp (eq-eqb _ _ r, le-leb _ _ h, eq-eqb _ _ l),
 )
 
--- the three upper flags of a frame, "three zeros, then the response flag"
-abbrev pub upperThree : List ℕ → ℕ
-upperThree f = getD f 1 0 / 2 % 8
-
 set-flag : (b : ℕ) → (b / 2 % 8 ≡ 0 → ⊥) → b % 16 / 2 ≡ 0 → ⊥
 set-flag b n e = n (omega arith)
 
@@ -97,10 +87,6 @@ wrap-numbers f room = (
   λ r n. simp (eq-eqb _ _ r, ne-eqb _ _ n),
   λ r l. simp (eq-eqb _ _ r, eq-eqb _ _ l),
 )
-
--- a right start, sum and stop
-abbrev pub Framed : List ℕ → Type 0
-Framed w = (getD w 0 0 ≡ 0xAA) × (getD w 13 0 ≡ sumOf (take 12 (drop 1 w)) % 256) × (getD w 14 0 ≡ 0xA5)
 
 not-framed : (w : List ℕ) → (Framed w → ⊥) → rightlyWrapped w ≡ false
 not-framed w n = go (rightlyWrapped w) refl

@@ -1,3 +1,4 @@
 pub mod Frame
 pub mod Wrapping
 pub mod Numbers
+pub mod Said

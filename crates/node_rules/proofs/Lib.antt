@@ -18,6 +18,5 @@ pub mod Agreement
 pub mod Witnesses
 pub mod AgreementWitness
 pub mod Reached
-pub mod Refusing
 pub mod TwoFaults
 pub mod Pinned

@@ -8,3 +8,4 @@ pub mod Restart
 pub mod Runs
 pub mod Others
 pub mod Reading
+pub mod Refusals
