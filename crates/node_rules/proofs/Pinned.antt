@@ -25,7 +25,7 @@ use Rattle.node_rules.specs.Requests.{handledTypes, found}
 use Rattle.node_rules.specs.Outcomes.{decided}
 use Rattle.node_rules.specs.Step.{Step, done, canStep}
 use Rattle.node_rules.specs.Uart.{heldAfterBad, uartStep}
-use Rattle.node_rules.specs.Refusals.{node050A, flash, Refused, allButStop, asking, telling, oneFault, MayBeStaged, illegalStaged, described, toldSo, afterwardsSo}
+use Rattle.node_rules.specs.Refusals.{node050A, flash, Refused, allButStop, asking, oneFault, MayBeStaged, illegalStaged, described, toldSo, afterwardsSo, toEeprom}
 
 -- "A fresh node takes the six bytes, has own numbers 0, no bytes held, pin CAN only, and waits for restart."
 pub fresh-says : (six : List ℕ) → (freshNode six .plate .fixed ≡ six)
@@ -105,6 +105,6 @@ pub numbers-stay : (map (λ (s : Step). s .answer .number) toldSo ≡ 0 ∷ 0 �
     × (listed (afterwardsSo .eeprom) 0x20 16
     ≡ 0x01 ∷ 0x02 ∷ 0x03 ∷ 0x04 ∷ 0x05 ∷ 0x06 ∷ 0x11 ∷ 0x22 ∷ 0x07 ∷ 0x08 ∷ 0x09 ∷ 0x0A ∷ 0x0B ∷ 0x0C ∷ 0x0D ∷ 0x0E ∷ [])
     × (afterwardsSo .node .plate .own .0 ≡ 0x05) × (afterwardsSo .node .plate .group .0 ≡ 0x0A)
-    × (canStep (afterwardsSo .node) (telling 0x04 0x00 0x11 0x22 0x00 0x00 0x00 0x00) (afterwardsSo .flash) (afterwardsSo .eeprom) .answer .number ≡ 7)
+    × (canStep (afterwardsSo .node) toEeprom (afterwardsSo .flash) (afterwardsSo .eeprom) .answer .number ≡ 7)
 unfolding canStep tidied heldIn decided found handledTypes done ruled eepromWritten eepromCellsAfter patch
 numbers-stay = (refl, refl, refl, refl, refl)

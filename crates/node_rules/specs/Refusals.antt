@@ -1,5 +1,5 @@
--- The words of the examples that pin the outcome table: a row of a table of refusals, the tables, and what other examples are handed. They
--- are node 05, 0A's, over blank memories. What a row says is an equation of all that a call leaves: the number, no reply, the node, and both
+-- The words of the examples that pin document 01's sentences: a row of a table of refusals, the tables, and what other examples are handed.
+-- They are node 05, 0A's, mostly over blank memories. What a row says is all that a call leaves: the number, no reply, the node, and both
 -- memories as they were. proofs/Pinned.antt and proofs/TwoFaults.antt have the statements.
 use mathlib.Core.Path.{_≡_}
 use mathlib.Core.Bool.{false}
@@ -40,9 +40,9 @@ flash = replicate 65536 0xFF
 abbrev pub eeprom : List ℕ
 eeprom = replicate 1024 0xFF
 
--- a row. On CAN: the number, a mode, a frame, two memories, the mode afterwards. On UART: the number, a pin, a mode, the bytes that are held,
--- a byte, two memories, the bytes that are held afterwards; the mode stays. On both ports, over blank memories: the number, a mode, a frame
--- that comes whole, the mode afterwards; on UART nothing is held then
+-- a row. On CAN: the number, a mode, a frame, two memories, the mode afterwards. On UART: the number, a pin, a mode, the bytes that are
+-- held, a byte, two memories, the bytes that are held afterwards; the mode stays. On both ports, over blank memories: the number, a mode, a
+-- frame that comes whole, the mode afterwards; on UART nothing is held then
 pub data Row : Type 0 where
   onCan : ℕ → Mode → List ℕ → List ℕ → List ℕ → Mode → Row
   onUart : ℕ → Pin → Mode → List ℕ → ℕ → List ℕ → List ℕ → List ℕ → Row
@@ -229,3 +229,7 @@ toldSo = framesIn overNumbers (state (node050A CanOnly (Programming Nothing) [])
 
 abbrev pub afterwardsSo : State
 afterwardsSo = endOf behindFrame (state (node050A CanOnly (Programming Nothing) []) flash eeprom) toldSo
+
+-- a data frame to the numbers that then stand in EEPROM
+abbrev pub toEeprom : List ℕ
+toEeprom = telling 0x04 0x00 0x11 0x22 0x00 0x00 0x00 0x00
