@@ -14,7 +14,7 @@ use Rattle.base.specs.Parts.{part}
 use Rattle.base.proofs.Choice.{both-true}
 use Rattle.base.proofs.Patched.{part-length}
 use Rattle.memory_address.specs.Places.{full, eepromCell}
-use Rattle.memory_address.specs.Rule.{ruled, isLegal, legalFlash, legalEeprom, numbered}
+use Rattle.memory_address.specs.Rule.{ruled, ruledNumber, legalFlash, legalEeprom}
 use Rattle.memory_address.specs.declared.Address.the-variants.{Flash, Eeprom}
 use Rattle.memory_address.specs.declared.Ruled.{Ruled}
 use Rattle.memory_address.specs.declared.Ruled.the-variants.{Legal, Illegal}
@@ -31,7 +31,7 @@ pub eight-shown : (flash eeprom : List ℕ) (a : ℕ) → shownNumber flash eepr
 unfolding shown shownNumber
 eight-shown flash eeprom a e = go (full flash eeprom) refl (ruled a 0x01) (ruled-within a 0x01) e
   where
-    go : (b : Bool) → full flash eeprom ≡ b → (r : Ruled) → Within 8 a r → numbered b (isLegal r) ≡ 0
+    go : (b : Bool) → full flash eeprom ≡ b → (r : Ruled) → Within 8 a r → cond b (ruledNumber r) 1 ≡ 0
         → length (cond b (rowAt flash eeprom r) []) ≡ 8
     go true t (Legal (Flash f)) w z = let l = full-lengths flash eeprom t in part-length flash (f .0) 8 (omega arith)
     go true t (Legal (Eeprom p)) w z =
@@ -44,7 +44,7 @@ pub none-shown : (flash eeprom : List ℕ) (a : ℕ) → (shownNumber flash eepr
 unfolding shown shownNumber
 none-shown flash eeprom a n = go (full flash eeprom) (ruled a 0x01) n
   where
-    go : (b : Bool) (r : Ruled) → (numbered b (isLegal r) ≡ 0 → ⊥) → cond b (rowAt flash eeprom r) [] ≡ []
+    go : (b : Bool) (r : Ruled) → (cond b (ruledNumber r) 1 ≡ 0 → ⊥) → cond b (rowAt flash eeprom r) [] ≡ []
     go true (Legal x) m = absurd (m refl)
     go true Illegal m = refl
     go false r m = refl
