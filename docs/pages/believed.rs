@@ -44,14 +44,19 @@ pub fn page(repo: &Repo, cited: &BTreeSet<Citation>) -> Result<String, String> {
     let all = rests(&mut closure, cited, None)?;
     let mut out = HEAD.to_string();
     out.push_str("\n| | statements | lines | definitions, types and contracts | lines |\n|---|---|---|---|---|\n");
-    row(&mut out, repo, "all", &all);
+    let mut questions = Rests { statements: BTreeSet::new(), below: BTreeSet::new() };
     for question in 1..=3 {
         let part = rests(&mut closure, cited, Some(question))?;
         row(&mut out, repo, &format!("question {question}"), &part);
+        questions.statements.extend(part.statements);
+        questions.below.extend(part.below);
     }
+    row(&mut out, repo, "questions 1 to 3", &questions);
+    row(&mut out, repo, "with the samples and examples", &all);
+    border(repo, &all.below)?;
     out.push_str(&format!(
-        "\nOf the lines of all definitions, types and contracts: {}.\n",
-        by_kind(repo, &all.below)
+        "\nOf the lines that questions 1 to 3 rest on: {}.\n",
+        by_kind(repo, &questions.below)
     ));
     if !closure.unknown.is_empty() {
         return Err(closure.unknown.iter().cloned().collect::<Vec<_>>().join("\n"));
@@ -68,6 +73,30 @@ pub fn page(repo: &Repo, cited: &BTreeSet<Citation>) -> Result<String, String> {
         let _ = writeln!(out, "| {path} | {} |", names.join(", "));
     }
     Ok(out)
+}
+
+/// The border is true: what the statements rest on stands in specs/ (or is a type or a contract of src/), and specs/ has nothing else but what
+/// stands apart in a folder Internal. Else the definitions that are on the wrong side.
+fn border(repo: &Repo, below: &BTreeSet<Thing>) -> Result<(), String> {
+    let mut wrong = Vec::new();
+    for (file, parsed) in &repo.antt {
+        for at in 0..parsed.declarations.len() {
+            let thing = Thing::Declared(file.clone(), at);
+            let rested_on = below.contains(&thing);
+            let inside = is_spec(file) && !file.contains("/specs/Internal");
+            let name = entry(repo, &thing, false).map(|e| e.name).unwrap_or_default();
+            if rested_on && !inside {
+                wrong.push(format!("{file}: {name}: a cited statement rests on it, and it is not in specs/"));
+            }
+            if inside && !rested_on {
+                wrong.push(format!("{file}: {name}: in specs/, and no cited statement rests on it"));
+            }
+        }
+    }
+    if wrong.is_empty() {
+        return Ok(());
+    }
+    Err(wrong.join("\n"))
 }
 
 /// How many lines there are of each kind.

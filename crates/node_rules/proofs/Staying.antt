@@ -8,10 +8,14 @@ use Rattle.memory_address.specs.Places.{full}
 use Rattle.node_rules.specs.declared.Next.{Next}
 use Rattle.node_rules.specs.declared.Next.the-variants.{Stays, Programs, Waits}
 use Rattle.node_rules.specs.declared.Node.{Node}
-use Rattle.node_rules.specs.Record.{holding, heldOf, tidied, SameNumbers}
+use Rattle.node_rules.specs.Record.{holding, heldOf, tidied}
 use Rattle.node_rules.specs.Outcomes.{decided}
 use Rattle.node_rules.specs.Step.{nodeAfter, done, canStep}
 use Rattle.node_rules.specs.Uart.{heldWith, heldAfter, heldDecided, uartStep}
+
+-- one record and another: the same own numbers and fixed bytes, and the same choices
+abbrev pub SameNumbers : Node → Node → Type 0
+SameNumbers n n′ = (n′ .plate ≡ n .plate) × (n′ .choices ≡ n .choices)
 
 stays : (x : Next) (n : Node) → SameNumbers n (nodeAfter x n)
 stays Stays n = (refl, refl)

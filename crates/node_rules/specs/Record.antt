@@ -86,7 +86,3 @@ freshNode six =
       receiver = receiving [];
       mode = Waiting;
     }
-
--- "they stay until the next restart": the same own numbers and fixed bytes, and the same choices
-abbrev pub SameNumbers : Node → Node → Type 0
-SameNumbers n n′ = (n′ .plate ≡ n .plate) × (n′ .choices ≡ n .choices)

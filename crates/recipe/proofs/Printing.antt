@@ -10,7 +10,7 @@ use lib.Dec.{eqb}
 use lib.ListN.{length, length-append}
 use lib.Seq.{take-at, drop-at}
 use borrow.Author.Tests.{ne-eqb}
-use Rattle.recipe.specs.Items.{Item, block, row, Recipe, Legal, LegalItem, LegalItems, addressBytes, printedItem, printedItems, printed}
+use Rattle.recipe.specs.Items.{Item, block, row, Recipe, Legal, LegalItem, LegalItems, addressBytes, printedItem, printedItems, printed, opened}
 use Rattle.recipe.specs.Faults.{addressOf}
 use Rattle.recipe.specs.Reading.{Reading, withItems, readFrom, reading}
 use Rattle.recipe.proofs.Inside.{address-24}
@@ -88,10 +88,6 @@ read-items (i ∷ is) looks rest place number h more few =
     ∙ ap (withItems (i ∷ []))
     (read-items is looks rest (place + length (printedItem i)) (number + 1) (h .1) (omega arith) (omega arith)
     ∙ rw (far, next)))
-
--- Open and legal items, and then anything
-abbrev pub opened : ℕ → ℕ → List Item → List ℕ
-opened m g is = 0x01 ∷ m ∷ g ∷ printedItems is
 
 pub read-opened : (m g : ℕ) (is : List Item) (rest : List ℕ) → LegalItems is → length is ≤ 2047
     → reading (opened m g is ++ rest) ≡ withItems is (readFrom (2048 - length is) rest (length (opened m g is)) (2 + length is) false)

@@ -7,14 +7,14 @@ use Prim.Native.Nat.{ℕ, suc, _+_, _-_, _≤_, _<_}
 use native.Mathlib.Omega.{arith}
 use lib.ListN.{length}
 use Rattle.recipe.specs.declared.Translated.the-variants.{Refused}
-use Rattle.recipe.specs.Items.{Item, Recipe, Legal, LegalItems, printed}
+use Rattle.recipe.specs.Items.{Item, Recipe, Legal, LegalItems, printed, opened}
 use Rattle.recipe.specs.Frames.{frameCount}
 use Rattle.recipe.specs.Faults.{faultAt}
 use Rattle.recipe.specs.Reading.{Reading, Stop, atEnd, readFrom, reading, recipeOf}
 use Rattle.recipe.specs.Translation.{answerAt, checked}
 use Rattle.recipe.proofs.Order.{faultless}
 use Rattle.recipe.proofs.Steps.{read-end, read-fault}
-use Rattle.recipe.proofs.Printing.{opened, read-opened, read-printed}
+use Rattle.recipe.proofs.Printing.{read-opened, read-printed}
 
 -- the answer follows from how the reading stopped
 stopped : (input : List ℕ) (r : Reading) (s : Stop) → reading input ≡ r → r .stop ≡ s

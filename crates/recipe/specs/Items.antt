@@ -50,3 +50,7 @@ printedItems (i ∷ is) = printedItem i ++ printedItems is
 -- "0x01 Open .. module, group", "Open is first and once, Leave last and once", "0x0F Leave .. none"
 unfoldable pub printed : Recipe → List ℕ
 printed r = 0x01 ∷ r .moduleNumber ∷ r .groupNumber ∷ (printedItems (r .items) ++ (0x0F ∷ []))
+
+-- Open and legal items, and then anything
+abbrev pub opened : ℕ → ℕ → List Item → List ℕ
+opened m g is = 0x01 ∷ m ∷ g ∷ printedItems is

@@ -15,8 +15,8 @@ use Rattle.node_rules.specs.Step.{Step, after, canStep}
 use Rattle.node_rules.specs.Runs.{state}
 use Rattle.recipe.specs.Frames.{joined}
 use Rattle.recipe.proofs.Framing.{joined-append}
-use Rattle.update_rules.specs.Delivery.{Delivery, told, behind, delivered}
-use Rattle.update_rules.proofs.Deliveries.{frame-first}
+use Rattle.update_rules.specs.Delivery.{Delivery, told, delivered}
+use Rattle.update_rules.proofs.Deliveries.{frame-first, behind}
 use Rattle.update_deliver.specs.Taken.{firstFrames}
 use Rattle.update_deliver.specs.Internal.Handing.{handed, handedBy, handedOver}
 

@@ -12,7 +12,7 @@ use Rattle.node_rules.specs.Runs.{State, state, behindFrame}
 use Rattle.node_rules.proofs.Spoiling.{can-lengths, can-protected}
 use Rattle.node_rules.proofs.Staying.{can-stays}
 use Rattle.memory_address.specs.Rule.{protected}
-use Rattle.update_rules.specs.Delivery.{told, Delivery, delivery, behindFrames, delivered, Delivers, behind}
+use Rattle.update_rules.specs.Delivery.{told, Delivery, delivery, behindFrames, delivered, Delivers}
 
 -- a frame handed to what stands
 abbrev pub stepAt : State → List ℕ → Step
@@ -20,6 +20,10 @@ stepAt s f = canStep (s .node) f (s .flash) (s .eeprom)
 
 abbrev pub deliveredAt : List (List ℕ) → State → Delivery
 deliveredAt frames s = delivered frames (s .node) (s .flash) (s .eeprom)
+
+-- a delivery with answers before its own
+abbrev pub behind : List (List ℕ) → Delivery → Delivery
+behind answers d = record { answers = answers ++ d .answers; node = d .node; flash = d .flash; eeprom = d .eeprom }
 
 -- a delivery taken apart: what stands between the first frames and the others
 pub record Parted (first others : List (List ℕ)) (before : State) (answers : List (List ℕ)) (after : State) : Type 0 where

@@ -22,10 +22,10 @@ use Rattle.recipe.specs.Frames.{leaveFrame, itemsFrames, framesOf, frameCount}
 use Rattle.recipe.specs.Plain.{Memories, plainItems, plainLeave, plainly}
 use Rattle.recipe.proofs.Framing.{count-frames}
 use Rattle.recipe.proofs.Plainly.{plain-items-sizes}
-use Rattle.update_rules.specs.Delivery.{told, Delivery, delivered, Delivers, behind}
+use Rattle.update_rules.specs.Delivery.{told, Delivery, delivered, Delivers}
 use Rattle.update_rules.specs.Mirror.{mirrored, nothingTold, answersOf}
 use Rattle.update_rules.specs.Updated.{Ready, over, Full, leftWhole, updated, Arrived}
-use Rattle.update_rules.proofs.Deliveries.{deliveredAt, frame-first, one, one-behind-another}
+use Rattle.update_rules.proofs.Deliveries.{deliveredAt, frame-first, one, one-behind-another, behind}
 use Rattle.update_rules.proofs.Items.{items-carry}
 
 -- the same frames, from the record as it was handed in: the first call tidies

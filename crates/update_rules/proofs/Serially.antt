@@ -39,11 +39,11 @@ use Rattle.recipe.specs.Items.{Recipe, Legal}
 use Rattle.recipe.specs.Frames.{itemsFrames, framesOf, joined, Twelve}
 use Rattle.recipe.specs.Plain.{Memories}
 use Rattle.recipe.proofs.Framing.{frames-twelve}
-use Rattle.update_rules.specs.Delivery.{Delivery, told, behind, delivered}
+use Rattle.update_rules.specs.Delivery.{Delivery, told, delivered}
 use Rattle.update_rules.specs.Serial.{toldOnUart, deliveryOnUart, fed, wrappedAll, incompleteTold, wrappedTold, onSerial, OpenPort, AllDone}
 use Rattle.update_rules.specs.Mirror.{mirrored, nothingTold, answersOf}
 use Rattle.update_rules.specs.Updated.{Ready, updated}
-use Rattle.update_rules.proofs.Deliveries.{stepAt, frame-keeps}
+use Rattle.update_rules.proofs.Deliveries.{stepAt, frame-keeps, behind}
 use Rattle.update_rules.proofs.DemandThree.{demand-three}
 
 -- ---- what is told on UART of an answer, from what is told of it on CAN

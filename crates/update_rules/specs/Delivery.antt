@@ -37,7 +37,3 @@ delivered frames n flash eeprom =
 -- THE RELATION: frames handed to what stands before give these told answers, and leave what stands after
 abbrev pub Delivers : List (List ℕ) → State → List (List ℕ) → State → Type 0
 Delivers frames before answers after = delivered frames (before .node) (before .flash) (before .eeprom) ≡ delivery answers after
-
--- a delivery with answers before its own
-abbrev pub behind : List (List ℕ) → Delivery → Delivery
-behind answers d = record { answers = answers ++ d .answers; node = d .node; flash = d .flash; eeprom = d .eeprom }
