@@ -8,7 +8,8 @@ use Prim.Native.Nat.{ℕ}
 use native.Mathlib.Omega.{arith}
 use lib.Dec.{lit<}
 use lib.ListN.{getD, replicate, length-replicate}
-use Rattle.base.proofs.Bytes.{Bytes, bytes-replicate}
+use Rattle.base.proofs.Bytes.{bytes-replicate}
+use Rattle.base.specs.Parts.{Bytes}
 use Rattle.memory_address.specs.declared.Address.the-variants.{Flash}
 use Rattle.memory_address.specs.Rule.{ruled}
 use Rattle.node_rules.specs.declared.Pin.the-variants.{CanAndUart}
@@ -17,11 +18,14 @@ use Rattle.node_rules.specs.declared.Staged.the-variants.{Write}
 use Rattle.node_rules.specs.declared.Mode.the-variants.{Programming}
 use Rattle.node_rules.specs.declared.Node.{Node}
 use Rattle.node_rules.specs.Record.{receiving, plain, heldIn, tidied}
+use Rattle.node_rules.specs.Runs.{State}
 use Rattle.recipe.specs.Items.{block, Recipe, Legal}
 use Rattle.recipe.specs.Frames.{framesOf}
 use Rattle.recipe.specs.Plain.{Memories}
-use Rattle.update_rules.specs.Delivery.{Delivery, delivered}
-use Rattle.update_rules.specs.Updated.{Ready, Full}
+use Rattle.update_rules.specs.Delivery.{behindFrames, delivered}
+use Rattle.update_rules.specs.Updated.{Ready, over, Full, Arrived}
+use Rattle.update_rules.proofs.Deliveries.{all-delivered}
+use Rattle.update_rules.proofs.DemandThree.{delivery-arrives}
 use Rattle.update_rules.specs.Serial.{OpenPort}
 use Rattle.update_rules.proofs.Corollaries.{last-block, flash-kept, bootfl-ends-zero}
 
@@ -69,21 +73,26 @@ pub block-open-port : OpenPort node (memories .flash) (memories .eeprom)
 unfolding node heldIn
 block-open-port = record { bothPorts = refl; noneHeld = refl; flashFull = block-full .0; eepromFull = block-full .1 }
 
--- what the delivery leaves
-abbrev left : Delivery
-left = delivered (framesOf blockRecipe) node (memories .flash) (memories .eeprom)
+-- what stands after the delivery
+abbrev after : State
+after = behindFrames (framesOf blockRecipe) (over node memories)
+
+-- it has arrived whole
+pub block-arrives : Arrived blockRecipe node memories (delivered (framesOf blockRecipe) node (memories .flash) (memories .eeprom) .answers) after
+block-arrives =
+    delivery-arrives blockRecipe node memories _ after block-legal block-ready block-full
+    (all-delivered (framesOf blockRecipe) (over node memories))
 
 -- the first two cells of the Block hold its bytes; the cell below it, and the one behind it, hold what they held; BOOTFL holds 0x00
-pub block-cells : (getD (left .flash) 0x001000 0 ≡ 0x12) × (getD (left .flash) 0x001001 0 ≡ 0x34) × (getD (left .flash) 0x000FFF 0 ≡ 0x00)
-    × (getD (left .flash) 0x001040 0 ≡ 0x00) × (getD (left .eeprom) 0 0 ≡ 0x00)
+pub block-cells : (getD (after .flash) 0x001000 0 ≡ 0x12) × (getD (after .flash) 0x001001 0 ≡ 0x34) × (getD (after .flash) 0x000FFF 0 ≡ 0x00)
+    × (getD (after .flash) 0x001040 0 ≡ 0x00) × (getD (after .eeprom) 0 0 ≡ 0x00)
 unfolding blockRecipe cells memories
 block-cells =
-    let f = block-full in
-    let said = last-block blockRecipe node memories block-legal block-ready (f .0) (f .1) [] [] 0x001000 cells in
-    let kept = flash-kept blockRecipe node memories block-legal block-ready (f .0) (f .1) in (
+    let said = last-block blockRecipe node memories _ after block-legal block-full block-arrives [] [] 0x001000 cells in
+    let kept = flash-kept blockRecipe node memories _ after block-legal block-full block-arrives in (
       said 0 (lit< tt) refl tt,
       said 1 (lit< tt) refl tt,
       kept 0x000FFF (inl (lit< tt), tt),
       kept 0x001040 (inr (omega arith), tt),
-      bootfl-ends-zero blockRecipe node memories block-legal block-ready (f .0) (f .1),
+      bootfl-ends-zero blockRecipe node memories _ after block-legal block-full block-arrives,
     )
