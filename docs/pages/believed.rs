@@ -75,8 +75,8 @@ pub fn page(repo: &Repo, cited: &BTreeSet<Citation>) -> Result<String, String> {
     Ok(out)
 }
 
-/// The border is true: what the statements rest on stands in specs/ (or is a type or a contract of src/), and specs/ has nothing else but what
-/// stands apart in a folder Internal. Else the definitions that are on the wrong side.
+/// The border is true: what the statements rest on stands in specs/ (or is a type or a contract of src/), and specs/ has nothing else
+/// but what stands apart in a folder Internal. Else the definitions that are on the wrong side.
 fn border(repo: &Repo, below: &BTreeSet<Thing>) -> Result<(), String> {
     let mut wrong = Vec::new();
     for (file, parsed) in &repo.antt {

@@ -1,5 +1,5 @@
--- What no calls can spoil, whatever they are and whatever they are handed: each spares the protected cells of FLASH and keeps the lengths of
--- both memories, and so do they all.
+-- What no calls can spoil, whatever they are and whatever they are handed: each spares the protected cells of FLASH and keeps the lengths
+-- of both memories, and so do they all.
 -- Assumes nothing.
 use mathlib.Core.Path.{_≡_, _∙_, refl}
 use mathlib.Core.Bool.{true}

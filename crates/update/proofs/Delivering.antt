@@ -1,5 +1,5 @@
--- What the contract of `deliver` says, whatever node, memories and buffers it is lent: the definition's step. And so what it can't spoil: the
--- protected cells and the lengths, since a refused recipe touches nothing and a delivery hands frames over one by one.
+-- What the contract of `deliver` says, whatever node, memories and buffers it is lent: the definition's step. And so what it can't spoil:
+-- the protected cells and the lengths, since a refused recipe touches nothing and a delivery hands frames over one by one.
 -- Assumes nothing.
 use mathlib.Core.Path.{_≡_, _∙_, refl, ap}
 use mathlib.Core.Bool.{true}
@@ -44,7 +44,8 @@ module _ (recipe flash eeprom frames answers : List ℕ) (n : Node) where
       (kept .flashLength, kept .eepromLength)
 
 -- any node, any memories, any buffers
-module _ {recipe flash eeprom frames answers : List ℕ} {n : Node} {l : Left} (delivers : Deliver recipe n flash eeprom frames answers l) where
+module _ {recipe flash eeprom frames answers : List ℕ} {n : Node} {l : Left}
+    (delivers : Deliver recipe n flash eeprom frames answers l) where
   pub deliver-protected : (i : ℕ) → protected i ≡ true → getD (l .flash) i 0 ≡ getD flash i 0
   unfolding deliverStep
   deliver-protected i p =

@@ -1,5 +1,5 @@
--- What the translator's real contract says of recipes, by the parts of a call: which bytes it takes, what it then writes, and what it refuses.
--- Each is the law of crate recipe_translate at that call.
+-- What the translator's real contract says of recipes, by the parts of a call: which bytes it takes, what it then writes, and what it
+-- refuses. Each is the law of crate recipe_translate at that call.
 -- Assumes nothing.
 use mathlib.Core.Path.{_≡_, _∙_, ap}
 use mathlib.Core.List.{List, _++_}
@@ -14,8 +14,8 @@ use Rattle.recipe.specs.Translation.{translatedNumber, translatedValue, checked
 use Rattle.recipe_translate.proofs.Translating.{accepts-every-legal, refuses-short-output, accepts-only-legal, refuses-fault}
 use Rattle.update.specs.Calls.{Translate, call}
 
--- it takes the bytes of every legal recipe, where the output has room: the count is the sum over the kinds, the output holds the frames, and
--- the bytes behind them stay
+-- it takes the bytes of every legal recipe, where the output has room: the count is the sum over the kinds, the output holds the frames,
+-- and the bytes behind them stay
 pub translate-takes : {input output output′ : List ℕ} {t : Translated} → Translate input output t output′ → (q : Recipe) → Legal q
     → input ≡ printed q → 12 * frameCount q ≤ length output
     → (t ≡ Frames (frameCount q)) × (output′ ≡ joined (framesOf q) ++ drop (12 * frameCount q) output)

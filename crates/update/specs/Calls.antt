@@ -45,4 +45,5 @@ pub data AnyCalls : List ℕ → List ℕ → List ℕ → List ℕ → Type 1 w
   called : {flash eeprom flash₁ eeprom₁ flash′ eeprom′ : List ℕ} → OneCall flash eeprom flash₁ eeprom₁
       → AnyCalls flash₁ eeprom₁ flash′ eeprom′ → AnyCalls flash eeprom flash′ eeprom′
   delivered : {recipe flash eeprom frames answers flash′ eeprom′ : List ℕ} {n : Node} {l : Left}
-      → Deliver recipe n flash eeprom frames answers l → AnyCalls (l .flash) (l .eeprom) flash′ eeprom′ → AnyCalls flash eeprom flash′ eeprom′
+      → Deliver recipe n flash eeprom frames answers l → AnyCalls (l .flash) (l .eeprom) flash′ eeprom′
+      → AnyCalls flash eeprom flash′ eeprom′

@@ -28,8 +28,8 @@ pub record Left : Type 0 where
 abbrev pub left : Delivered → List ℕ → List ℕ → List ℕ → List ℕ → Left
 left r flash eeprom frames answers = record { result = r; flash = flash; eeprom = eeprom; frames = frames; answers = answers }
 
--- after the delivery d of the `count` frames that stand in `frames`: what is told of each answer, 14 bytes, one behind the other; bytes behind
--- the last stay
+-- after the delivery d of the `count` frames that stand in `frames`: what is told of each answer, 14 bytes, one behind the other; bytes
+-- behind the last stay
 abbrev pub leftBy : ℕ → List ℕ → Delivery → List ℕ → Left
 leftBy count frames d answers =
     left (record { translated = Frames count; node = d .node; count = count }) (d .flash) (d .eeprom) frames

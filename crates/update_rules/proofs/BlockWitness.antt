@@ -78,14 +78,15 @@ abbrev after : State
 after = behindFrames (framesOf blockRecipe) (over node memories)
 
 -- it has arrived whole
-pub block-arrives : Arrived blockRecipe node memories (delivered (framesOf blockRecipe) node (memories .flash) (memories .eeprom) .answers) after
+pub block-arrives : Arrived blockRecipe node memories
+    (delivered (framesOf blockRecipe) node (memories .flash) (memories .eeprom) .answers) after
 block-arrives =
     delivery-arrives blockRecipe node memories _ after block-legal block-ready block-full
     (all-delivered (framesOf blockRecipe) (over node memories))
 
 -- the first two cells of the Block hold its bytes; the cell below it, and the one behind it, hold what they held; BOOTFL holds 0x00
-pub block-cells : (getD (after .flash) 0x001000 0 ≡ 0x12) × (getD (after .flash) 0x001001 0 ≡ 0x34) × (getD (after .flash) 0x000FFF 0 ≡ 0x00)
-    × (getD (after .flash) 0x001040 0 ≡ 0x00) × (getD (after .eeprom) 0 0 ≡ 0x00)
+pub block-cells : (getD (after .flash) 0x001000 0 ≡ 0x12) × (getD (after .flash) 0x001001 0 ≡ 0x34)
+    × (getD (after .flash) 0x000FFF 0 ≡ 0x00) × (getD (after .flash) 0x001040 0 ≡ 0x00) × (getD (after .eeprom) 0 0 ≡ 0x00)
 unfolding blockRecipe cells memories
 block-cells =
     let said = last-block blockRecipe node memories _ after block-legal block-full block-arrives [] [] 0x001000 cells in

@@ -82,7 +82,8 @@ pub cells-met : (getD (delivered (framesOf rowRecipe) node (memories .flash) (me
     × (getD (delivered (framesOf rowRecipe) node (memories .flash) (memories .eeprom) .eeprom) 0 0 ≡ 0x00)
 unfolding rowRecipe eight delivered
 cells-met =
-    let whole = delivery-arrives rowRecipe node memories _ _ legal-met ready-met full-met (all-delivered (framesOf rowRecipe) (over node memories)) in (
+    let whole = delivery-arrives rowRecipe node memories _ _ legal-met ready-met full-met
+    (all-delivered (framesOf rowRecipe) (over node memories)) in (
       last-row rowRecipe node memories _ _ legal-met full-met whole [] [] 0xF00030 eight 0 (lit< tt) refl tt (suc-ne-zero 47),
       bootfl-ends-zero rowRecipe node memories _ _ legal-met full-met whole,
     )

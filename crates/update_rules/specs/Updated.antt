@@ -30,7 +30,7 @@ over n m = state n (m .flash) (m .eeprom)
 abbrev pub Full : Memories → Type 0
 Full m = (length (m .flash) ≡ flashCells) × (length (m .eeprom) ≡ eepromCells)
 
--- what a whole update leaves standing: the tidied node, waiting for a restart, over both memories as the recipe says when it is read plainly
+-- what a whole update leaves standing: the tidied node, waiting for a restart, over both memories as the recipe says, read plainly
 abbrev pub leftWhole : Recipe → Node → Memories → State
 leftWhole r n m = over (withMode (tidied n) Waiting) (plainly r m)
 
