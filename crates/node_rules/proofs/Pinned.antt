@@ -29,7 +29,7 @@ use Rattle.node_rules.specs.Outcomes.{decided}
 use Rattle.node_rules.specs.Step.{done, canStep}
 use Rattle.node_rules.specs.Uart.{heldWith, heldAfterBad, heldDecided, heldDone, uartStep, silent}
 use Rattle.node_rules.specs.Reading.{leaves}
-use Rattle.node_rules.specs.Examples.{node050A, Row, onCan, onUart, onBoth, OnCan, OnUart, Refused, AllRefused, allButStop, asking, refusals, MayBeStaged, described}
+use Rattle.node_rules.specs.Examples.{node050A, Row, canRow, uartRow, bothRow, OnCan, OnUart, RowHolds, AllHold, allButStop, asking, refusals, MayBeStaged, described}
 
 -- "A fresh node takes the six bytes, has own numbers 0, no bytes held, pin CAN only, and waits for restart."
 pub fresh-says : (six : List ℕ) → (freshNode six .plate .fixed ≡ six)
@@ -87,9 +87,9 @@ UartComputes number sized p m xs b xs′ m′ = (flash eeprom : List ℕ)
     heldDone (heldDecided n sized with) n with flash eeprom ≡ silent number (node050A p m′ xs′) flash eeprom
 
 abbrev Computes : Row → Type 0
-Computes (onCan number sized m f m′) = CanComputes number sized m f m′
-Computes (onUart number sized p m xs b xs′) = UartComputes number sized p m xs b xs′ m
-Computes (onBoth number m f m′) = CanComputes number true m f m′ × UartComputes number true CanAndUart m (allButStop f) 0xA5 [] m′
+Computes (canRow number sized m f m′) = CanComputes number sized m f m′
+Computes (uartRow number sized p m xs b xs′) = UartComputes number sized p m xs b xs′ m
+Computes (bothRow number m f m′) = CanComputes number true m f m′ × UartComputes number true CanAndUart m (allButStop f) 0xA5 [] m′
 
 abbrev AllCompute : List Row → Type 0
 AllCompute [] = Unit {0}
@@ -109,15 +109,15 @@ uart-computed number sized p m xs b xs′ m′ e flash eeprom h =
     let with = heldWith (heldOf n) b in
     ap (λ (s : Bool). heldDone (heldDecided n s with) n with flash eeprom) h ∙ e flash eeprom
 
-row-computed : (r : Row) → Computes r → Refused r
-row-computed (onCan number sized m f m′) e = can-computed number sized m f m′ e
-row-computed (onUart number sized p m xs b xs′) e = uart-computed number sized p m xs b xs′ m e
-row-computed (onBoth number m f m′) e = (
+row-computed : (r : Row) → Computes r → RowHolds r
+row-computed (canRow number sized m f m′) e = can-computed number sized m f m′ e
+row-computed (uartRow number sized p m xs b xs′) e = uart-computed number sized p m xs b xs′ m e
+row-computed (bothRow number m f m′) e = (
   can-computed number true m f m′ (e .0),
   uart-computed number true CanAndUart m (allButStop f) 0xA5 [] m′ (e .1),
 )
 
-all-computed : (rs : List Row) → AllCompute rs → AllRefused rs
+all-computed : (rs : List Row) → AllCompute rs → AllHold rs
 all-computed [] e = tt
 all-computed (r ∷ rs) e = (row-computed r (e .0), all-computed rs (e .1))
 
@@ -125,7 +125,7 @@ infixr 4 _&_
 _&_ : {A B : Type 0} → A → B → A × B
 a & b = (a, b)
 
-pub refusals-hold : AllRefused refusals
+pub refusals-hold : AllHold refusals
 unfolding tidied heldIn decided found handledTypes done ruled heldAfterBad wrappedOf rightlyWrapped
 refusals-hold = all-computed refusals (
     (λ _ _. refl) & (λ _ _. refl) & (λ _ _. refl) & (λ _ _. refl) & (λ _ _. refl) & (λ _ _. refl) & (λ _ _. refl) & (λ _ _. refl) &

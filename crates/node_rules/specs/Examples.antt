@@ -38,9 +38,9 @@ node050A p m xs =
 -- on UART: the number, whether both memories have their size, a pin, a mode, the bytes that are held, a byte, the bytes held afterwards
 -- on both ports, over full memories: the number, a mode, a frame that comes whole, the mode afterwards
 pub data Row : Type 0 where
-  onCan : ℕ → Bool → Mode → List ℕ → Mode → Row
-  onUart : ℕ → Bool → Pin → Mode → List ℕ → ℕ → List ℕ → Row
-  onBoth : ℕ → Mode → List ℕ → Mode → Row
+  canRow : ℕ → Bool → Mode → List ℕ → Mode → Row
+  uartRow : ℕ → Bool → Pin → Mode → List ℕ → ℕ → List ℕ → Row
+  bothRow : ℕ → Mode → List ℕ → Mode → Row
 
 -- what is held of a frame before its last byte: "0xAA, the 12 bytes, the sum of the 12 modulo 256"
 abbrev pub allButStop : List ℕ → List ℕ
@@ -55,14 +55,14 @@ OnUart number sized p m xs b xs′ m′ = (flash eeprom : List ℕ) → full fla
     → uartStep (node050A p m xs) b flash eeprom ≡ silent number (node050A p m′ xs′) flash eeprom
 
 -- what a row says, of any memories; on UART, where the mode stays, and where a frame comes whole, whose last byte leaves nothing held
-abbrev pub Refused : Row → Type 0
-Refused (onCan number sized m f m′) = OnCan number sized m f m′
-Refused (onUart number sized p m xs b xs′) = OnUart number sized p m xs b xs′ m
-Refused (onBoth number m f m′) = OnCan number true m f m′ × OnUart number true CanAndUart m (allButStop f) 0xA5 [] m′
+abbrev pub RowHolds : Row → Type 0
+RowHolds (canRow number sized m f m′) = OnCan number sized m f m′
+RowHolds (uartRow number sized p m xs b xs′) = OnUart number sized p m xs b xs′ m
+RowHolds (bothRow number m f m′) = OnCan number true m f m′ × OnUart number true CanAndUart m (allButStop f) 0xA5 [] m′
 
-abbrev pub AllRefused : List Row → Type 0
-AllRefused [] = Unit {0}
-AllRefused (r ∷ rs) = Refused r × AllRefused rs
+abbrev pub AllHold : List Row → Type 0
+AllHold [] = Unit {0}
+AllHold (r ∷ rs) = RowHolds r × AllHold rs
 
 -- programming, with a write of the first row staged
 abbrev pub writing : Mode
@@ -76,97 +76,97 @@ abbrev pub telling : ℕ → ℕ → ℕ → ℕ → ℕ → ℕ → ℕ → ℕ
 telling b1 b2 m g d0 d1 d2 d5 = b1 ∷ b2 ∷ m ∷ g ∷ eightOf d0 d1 d2 0xFF 0xFF d5 0xFF 0xFF
 
 -- 0x040 to node 05, 0A
-abbrev pub dataFrame : List ℕ
-dataFrame = telling 0x04 0x00 0x05 0x0A 0x00 0x00 0x00 0x00
+abbrev pub data040 : List ℕ
+data040 = telling 0x04 0x00 0x05 0x0A 0x00 0x00 0x00 0x00
 
 -- the table
 abbrev pub refusals : List Row
 refusals =
     -- EACH NUMBER BUT 0, on each port where it can be
     -- memories of another length; the pin says CAN only; waiting for restart
-    onCan 1 false (Normal false) (asking 0x10 0x40 0x05 0x0A) (Normal false) ∷
-    onUart 1 false CanAndUart (Normal false) [] 0xAA [] ∷
-    onUart 2 true CanOnly (Normal false) [] 0xAA [] ∷
-    onCan 3 true Waiting (asking 0x10 0x40 0x05 0x0A) Waiting ∷
-    onUart 3 true CanAndUart Waiting [] 0xAA [] ∷
+    canRow 1 false (Normal false) (asking 0x10 0x40 0x05 0x0A) (Normal false) ∷
+    uartRow 1 false CanAndUart (Normal false) [] 0xAA [] ∷
+    uartRow 2 true CanOnly (Normal false) [] 0xAA [] ∷
+    canRow 3 true Waiting (asking 0x10 0x40 0x05 0x0A) Waiting ∷
+    uartRow 3 true CanAndUart Waiting [] 0xAA [] ∷
     -- a byte that is skipped, and one that is held; a wrong stop
-    onUart 10 true CanAndUart (Normal false) [] 0x00 [] ∷
-    onUart 10 true CanAndUart (Normal false) [] 0xAA (0xAA ∷ []) ∷
-    onUart 11 true CanAndUart (Normal false) (allButStop (asking 0x10 0x40 0x05 0x0A)) 0xA6 [] ∷
+    uartRow 10 true CanAndUart (Normal false) [] 0x00 [] ∷
+    uartRow 10 true CanAndUart (Normal false) [] 0xAA (0xAA ∷ []) ∷
+    uartRow 11 true CanAndUart (Normal false) (allButStop (asking 0x10 0x40 0x05 0x0A)) 0xA6 [] ∷
     -- an upper flag, a response, another type, another node
-    onBoth 4 (Normal false) (asking 0x10 0x42 0x05 0x0A) (Normal false) ∷
-    onBoth 5 (Normal false) (asking 0x10 0x41 0x05 0x0A) (Normal false) ∷
-    onBoth 6 (Normal false) (asking 0x10 0x70 0x05 0x0A) (Normal false) ∷
-    onBoth 7 (Normal false) (asking 0x10 0x40 0x06 0x0A) (Normal false) ∷
+    bothRow 4 (Normal false) (asking 0x10 0x42 0x05 0x0A) (Normal false) ∷
+    bothRow 5 (Normal false) (asking 0x10 0x41 0x05 0x0A) (Normal false) ∷
+    bothRow 6 (Normal false) (asking 0x10 0x70 0x05 0x0A) (Normal false) ∷
+    bothRow 7 (Normal false) (asking 0x10 0x40 0x06 0x0A) (Normal false) ∷
     -- an address below the rim; nothing staged
-    onBoth 8 writing (telling 0x03 0x00 0x05 0x0A 0x00 0x0F 0xF8 0x02) (Programming Nothing) ∷
-    onBoth 9 (Programming Nothing) dataFrame (Programming Nothing) ∷
+    bothRow 8 writing (telling 0x03 0x00 0x05 0x0A 0x00 0x0F 0xF8 0x02) (Programming Nothing) ∷
+    bothRow 9 (Programming Nothing) data040 (Programming Nothing) ∷
     -- TWO FAULTS AT ONCE, "Checked in this order"
     -- 1 before 2: memories of another length, and the pin says CAN only
-    onUart 1 false CanOnly (Normal false) [] 0xAA [] ∷
+    uartRow 1 false CanOnly (Normal false) [] 0xAA [] ∷
     -- 1 before 3: EEPROM of another length, and error mode; FLASH of another length, and waiting for restart
-    onCan 1 false Error (asking 0x10 0x40 0x05 0x0A) Error ∷
-    onCan 1 false Waiting (asking 0x10 0x40 0x05 0x0A) Waiting ∷
-    onUart 1 false CanAndUart Error [] 0xAA [] ∷
-    onUart 1 false CanAndUart Waiting (0xAA ∷ []) 0x10 (0xAA ∷ []) ∷
+    canRow 1 false Error (asking 0x10 0x40 0x05 0x0A) Error ∷
+    canRow 1 false Waiting (asking 0x10 0x40 0x05 0x0A) Waiting ∷
+    uartRow 1 false CanAndUart Error [] 0xAA [] ∷
+    uartRow 1 false CanAndUart Waiting (0xAA ∷ []) 0x10 (0xAA ∷ []) ∷
     -- 2 before 3: the pin says CAN only, and waiting for restart, or error mode
-    onUart 2 true CanOnly Waiting [] 0xAA [] ∷
-    onUart 2 true CanOnly Error (0xAA ∷ []) 0x10 (0xAA ∷ []) ∷
+    uartRow 2 true CanOnly Waiting [] 0xAA [] ∷
+    uartRow 2 true CanOnly Error (0xAA ∷ []) 0x10 (0xAA ∷ []) ∷
     -- 3 before 4: a deaf mode, and an upper flag
-    onCan 3 true Error (asking 0x10 0x42 0x05 0x0A) Error ∷
-    onCan 3 true Waiting (asking 0x10 0x42 0x05 0x0A) Waiting ∷
+    canRow 3 true Error (asking 0x10 0x42 0x05 0x0A) Error ∷
+    canRow 3 true Waiting (asking 0x10 0x42 0x05 0x0A) Waiting ∷
     -- 3 before 10: a deaf mode, and a byte that completes nothing
-    onUart 3 true CanAndUart Error [] 0xAA [] ∷
-    onUart 3 true CanAndUart Waiting (0xAA ∷ []) 0x10 (0xAA ∷ []) ∷
+    uartRow 3 true CanAndUart Error [] 0xAA [] ∷
+    uartRow 3 true CanAndUart Waiting (0xAA ∷ []) 0x10 (0xAA ∷ []) ∷
     -- 3 before 11: error mode, and a wrong stop
-    onUart 3 true CanAndUart Error (allButStop (asking 0x10 0x40 0x05 0x0A)) 0xA6 (allButStop (asking 0x10 0x40 0x05 0x0A)) ∷
+    uartRow 3 true CanAndUart Error (allButStop (asking 0x10 0x40 0x05 0x0A)) 0xA6 (allButStop (asking 0x10 0x40 0x05 0x0A)) ∷
     -- 11 before 4: a wrong stop, or a wrong sum, and an upper flag
-    onUart 11 true CanAndUart (Normal false) (allButStop (asking 0x10 0x42 0x05 0x0A)) 0xA6 [] ∷
-    onUart 11 true CanAndUart (Normal false) (0xAA ∷ asking 0x10 0x42 0x05 0x0A ++ (0x00 ∷ [])) 0xA5 [] ∷
+    uartRow 11 true CanAndUart (Normal false) (allButStop (asking 0x10 0x42 0x05 0x0A)) 0xA6 [] ∷
+    uartRow 11 true CanAndUart (Normal false) (0xAA ∷ asking 0x10 0x42 0x05 0x0A ++ (0x00 ∷ [])) 0xA5 [] ∷
     -- 4 before 5: an upper flag, and the response flag; a frame of two bytes with the response flag
-    onBoth 4 (Normal false) (asking 0x10 0x43 0x05 0x0A) (Normal false) ∷
-    onCan 4 true writing (0x04 ∷ 0x01 ∷ []) writing ∷
+    bothRow 4 (Normal false) (asking 0x10 0x43 0x05 0x0A) (Normal false) ∷
+    canRow 4 true writing (0x04 ∷ 0x01 ∷ []) writing ∷
     -- 5 before 6: a response of no handled type, and of a type of the other mode
-    onBoth 5 (Normal false) (asking 0x10 0x71 0x05 0x0A) (Normal false) ∷
-    onBoth 5 writing (asking 0x10 0x41 0x05 0x0A) writing ∷
+    bothRow 5 (Normal false) (asking 0x10 0x71 0x05 0x0A) (Normal false) ∷
+    bothRow 5 writing (asking 0x10 0x41 0x05 0x0A) writing ∷
     -- 6 before 7: a type of the other mode, for another node
-    onBoth 6 writing (asking 0x10 0x40 0x06 0x0A) writing ∷
-    onBoth 6 (Normal false) (telling 0x04 0x00 0x06 0x0A 0x00 0x00 0x00 0x00) (Normal false) ∷
+    bothRow 6 writing (asking 0x10 0x40 0x06 0x0A) writing ∷
+    bothRow 6 (Normal false) (telling 0x04 0x00 0x06 0x0A 0x00 0x00 0x00 0x00) (Normal false) ∷
     -- 7 before 8: an illegal address, and an illegal command, for another node
-    onBoth 7 writing (telling 0x03 0x00 0x06 0x0A 0x00 0x0F 0xF8 0x02) writing ∷
-    onBoth 7 writing (telling 0x03 0x00 0x05 0x0B 0x00 0x10 0x00 0x04) writing ∷
+    bothRow 7 writing (telling 0x03 0x00 0x06 0x0A 0x00 0x0F 0xF8 0x02) writing ∷
+    bothRow 7 writing (telling 0x03 0x00 0x05 0x0B 0x00 0x10 0x00 0x04) writing ∷
     -- 7 before 9: data for another node, with nothing staged
-    onBoth 7 (Programming Nothing) (telling 0x04 0x00 0x05 0x0B 0x00 0x00 0x00 0x00) (Programming Nothing) ∷
+    bothRow 7 (Programming Nothing) (telling 0x04 0x00 0x05 0x0B 0x00 0x00 0x00 0x00) (Programming Nothing) ∷
     -- FLAGS, LENGTHS, DEAF MODES
     -- each upper flag, in a request and in a data frame
-    onBoth 4 (Normal false) (asking 0x10 0x44 0x05 0x0A) (Normal false) ∷
-    onBoth 4 (Normal false) (asking 0x10 0x48 0x05 0x0A) (Normal false) ∷
-    onBoth 4 writing (telling 0x04 0x02 0x05 0x0A 0x00 0x00 0x00 0x00) writing ∷
-    onBoth 4 writing (telling 0x04 0x04 0x05 0x0A 0x00 0x00 0x00 0x00) writing ∷
-    onBoth 4 writing (telling 0x04 0x08 0x05 0x0A 0x00 0x00 0x00 0x00) writing ∷
+    bothRow 4 (Normal false) (asking 0x10 0x44 0x05 0x0A) (Normal false) ∷
+    bothRow 4 (Normal false) (asking 0x10 0x48 0x05 0x0A) (Normal false) ∷
+    bothRow 4 writing (telling 0x04 0x02 0x05 0x0A 0x00 0x00 0x00 0x00) writing ∷
+    bothRow 4 writing (telling 0x04 0x04 0x05 0x0A 0x00 0x00 0x00 0x00) writing ∷
+    bothRow 4 writing (telling 0x04 0x08 0x05 0x0A 0x00 0x00 0x00 0x00) writing ∷
     -- no bytes, 11 and 13
-    onCan 4 true writing [] writing ∷
-    onCan 4 true writing (take 11 dataFrame) writing ∷
-    onCan 4 true writing (dataFrame ++ (0x00 ∷ [])) writing ∷
+    canRow 4 true writing [] writing ∷
+    canRow 4 true writing (take 11 data040) writing ∷
+    canRow 4 true writing (data040 ++ (0x00 ∷ [])) writing ∷
     -- error mode and waiting for restart, also where a wrapped frame's last byte comes
-    onCan 3 true Error (asking 0x10 0x40 0x05 0x0A) Error ∷
-    onCan 3 true Error dataFrame Error ∷
-    onCan 3 true Waiting dataFrame Waiting ∷
-    onUart 3 true CanAndUart Error (allButStop dataFrame) 0xA5 (allButStop dataFrame) ∷
-    onUart 3 true CanAndUart Waiting (allButStop dataFrame) 0xA5 (allButStop dataFrame) ∷
+    canRow 3 true Error (asking 0x10 0x40 0x05 0x0A) Error ∷
+    canRow 3 true Error data040 Error ∷
+    canRow 3 true Waiting data040 Waiting ∷
+    uartRow 3 true CanAndUart Error (allButStop data040) 0xA5 (allButStop data040) ∷
+    uartRow 3 true CanAndUart Waiting (allButStop data040) 0xA5 (allButStop data040) ∷
     -- "A staged command that isn't legal counts as none"
-    onBoth 9 (Programming (Read (Flash (record { 0 = 0x000FF8 })))) dataFrame (Programming Nothing) ∷
-    onBoth 9 (Programming (Read (Flash (record { 0 = 0x001004 })))) dataFrame (Programming Nothing) ∷
-    onBoth 9 (Programming (Read (Flash (record { 0 = 0xF00000 })))) dataFrame (Programming Nothing) ∷
-    onBoth 9 (Programming (Read (Eeprom (record { 0 = 0xF00400 })))) dataFrame (Programming Nothing) ∷
-    onBoth 9 (Programming (Read (Eeprom (record { 0 = 0x001000 })))) dataFrame (Programming Nothing) ∷
-    onBoth 9 (Programming (Write (Flash (record { 0 = 0x000FF8 })))) dataFrame (Programming Nothing) ∷
-    onBoth 9 (Programming (Write (Flash (record { 0 = 0x010000 })))) dataFrame (Programming Nothing) ∷
-    onBoth 9 (Programming (Write (Eeprom (record { 0 = 0xF00004 })))) dataFrame (Programming Nothing) ∷
-    onBoth 9 (Programming (Write (Eeprom (record { 0 = 0x001000 })))) dataFrame (Programming Nothing) ∷
-    onBoth 9 (Programming (Erase (record { 0 = 0x000FC0 }))) dataFrame (Programming Nothing) ∷
-    onBoth 9 (Programming (Erase (record { 0 = 0x00FFC8 }))) dataFrame (Programming Nothing) ∷
-    onBoth 9 (Programming (Erase (record { 0 = 0x001008 }))) dataFrame (Programming Nothing) ∷ []
+    bothRow 9 (Programming (Read (Flash (record { 0 = 0x000FF8 })))) data040 (Programming Nothing) ∷
+    bothRow 9 (Programming (Read (Flash (record { 0 = 0x001004 })))) data040 (Programming Nothing) ∷
+    bothRow 9 (Programming (Read (Flash (record { 0 = 0xF00000 })))) data040 (Programming Nothing) ∷
+    bothRow 9 (Programming (Read (Eeprom (record { 0 = 0xF00400 })))) data040 (Programming Nothing) ∷
+    bothRow 9 (Programming (Read (Eeprom (record { 0 = 0x001000 })))) data040 (Programming Nothing) ∷
+    bothRow 9 (Programming (Write (Flash (record { 0 = 0x000FF8 })))) data040 (Programming Nothing) ∷
+    bothRow 9 (Programming (Write (Flash (record { 0 = 0x010000 })))) data040 (Programming Nothing) ∷
+    bothRow 9 (Programming (Write (Eeprom (record { 0 = 0xF00004 })))) data040 (Programming Nothing) ∷
+    bothRow 9 (Programming (Write (Eeprom (record { 0 = 0x001000 })))) data040 (Programming Nothing) ∷
+    bothRow 9 (Programming (Erase (record { 0 = 0x000FC0 }))) data040 (Programming Nothing) ∷
+    bothRow 9 (Programming (Erase (record { 0 = 0x00FFC8 }))) data040 (Programming Nothing) ∷
+    bothRow 9 (Programming (Erase (record { 0 = 0x001008 }))) data040 (Programming Nothing) ∷ []
 
 -- which command may be staged, in document 01's numbers ("Legal rows")
 abbrev pub RowAt : Address → Type 0
