@@ -50,7 +50,7 @@ refused-few input room number place few enough = go (readFrom 2049 input 0 1 fal
         let d = sym (ap (λ (b : Bool). cond b (Refused 26 0) (Frames (frameCount (recipeOf input)))) f) ∙ e in
         absurd (let z : _≡_ {A = ℕ} 0 1 = cc in omega arith)
 
--- the room of which the translator is lent a part
+-- so much the translator is lent
 room-enough : (frames answers : ℕ) → 12996 ≤ frames → 15162 ≤ answers → 12996 ≤ roomFor frames answers
 unfolding roomFor
 room-enough frames answers h k =

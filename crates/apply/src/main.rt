@@ -39,7 +39,7 @@ fn restarted(flash: &[u8], eeprom: &[u8]) -> Node
     r.node
 }
 
-// Applies the recipe to a blank node, whose cells are all 0xFF, and prints the answers or the refusal.
+// Applies the recipe to a blank node, whose cells are all 0xFF, and prints the answers or the refusal. The room does (proofs/HasRoom.antt).
 fn apply(recipe: &[u8])
     requires { ⌜ length (now recipe) ≤ 4096 ⌝ }
 {
