@@ -35,7 +35,7 @@ fn identifier_of(frame: &[u8]) -> u32
     (first * 16 + second / 16) * 131_072 + second % 2 * 65_536 + third * 256 + fourth
 }
 
-// The CAN identifier and the 8 data bytes of 12 HAPCAN bytes. 4 for not 12 bytes or an upper flag set.
+// The CAN identifier and the 8 data bytes of 12 HAPCAN bytes. 4 for not 12 bytes or an upper flag set. A frame that is taken holds bytes.
 pub fn to_can(frame: &[u8], data: &mut [u8]) -> Identified
     ensures { λ r. ⌜
         (r ≡ identifiedOf (toCanNumber (now (frame .entry)) (length (now («data» .entry)))) (now (frame .entry)))

@@ -73,7 +73,7 @@ fn put_frames(input: &[u8], output: &mut [u8])
 }
 
 // Translates a recipe into frames of 12 bytes each in a lent output. A refusal leaves the output as it was; bytes behind the last frame
-// stay.
+// stay. A recipe that is taken was read, and so is known to hold bytes.
 pub fn translate(recipe: &[u8], output: &mut [u8]) -> Translated
     ensures { λ r. ⌜
         (r ≡ translated (now (recipe .entry)) (length (now (output .entry))))
