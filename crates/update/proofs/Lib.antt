@@ -5,3 +5,4 @@ pub mod Delivering
 pub mod AnyCalls
 pub mod Whole
 pub mod SerialCalls
+pub mod Afterwards
