@@ -13,7 +13,7 @@ use lib.ListN.{length, drop, length-drop}
 use Rattle.recipe.specs.Items.{Item}
 use Rattle.recipe.specs.Frames.{itemsCount, frameCount}
 use Rattle.recipe.specs.Faults.{outOfPlace, faultAt}
-use Rattle.recipe.specs.Reading.{Reading, sizeOf, itemsAt, behind, readFrom, reading, recipeOf}
+use Rattle.recipe.specs.Reading.{Reading, sizeOf, itemsAt, withItems, readFrom, reading, recipeOf}
 use Rattle.recipe.proofs.Order.{Faultless, faultless}
 use Rattle.recipe.proofs.OnlyLegal.{kinds}
 use Rattle.recipe.proofs.Steps.{read-end, read-fault, read-on}
@@ -30,7 +30,7 @@ module _ (looks : ℕ)
   Claim k =
       Faultless (k ∷ xs) number left
       → Within (length (k ∷ xs))
-      (behind (itemsAt (k ∷ xs))
+      (withItems (itemsAt (k ∷ xs))
       (readFrom looks (drop (sizeOf (k ∷ xs)) (k ∷ xs)) (place + sizeOf (k ∷ xs)) (number + 1) (eqb k 0x0F)) .items)
 
   on-open : Claim 0x01
@@ -94,7 +94,7 @@ module _ (xs : List ℕ) (few : suc (length xs) ≤ 4096) where
   abbrev First : ℕ → Type 0
   First k =
       Faultless (k ∷ xs) 1 false
-      → itemsCount (behind (itemsAt (k ∷ xs)) (readFrom 2048 (drop (sizeOf (k ∷ xs)) (k ∷ xs)) (0 + sizeOf (k ∷ xs)) 2 (eqb k 0x0F)) .items)
+      → itemsCount (withItems (itemsAt (k ∷ xs)) (readFrom 2048 (drop (sizeOf (k ∷ xs)) (k ∷ xs)) (0 + sizeOf (k ∷ xs)) 2 (eqb k 0x0F)) .items)
       ≤ 1082
 
   first-open : First 0x01
