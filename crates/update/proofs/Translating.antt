@@ -19,7 +19,10 @@ use Rattle.update.specs.Calls.{Translate, call}
 pub translate-takes : {input output output′ : List ℕ} {t : Translated} → Translate input output t output′ → (q : Recipe) → Legal q
     → input ≡ printed q → 12 * frameCount q ≤ length output
     → (t ≡ Frames (frameCount q)) × (output′ ≡ joined (framesOf q) ++ drop (12 * frameCount q) output)
-translate-takes (call κs a r s p) q legal e room = accepts-every-legal κs a r s p q legal e room
+    × (translatedNumber t ≡ 0) × (translatedValue t ≡ frameCount q)
+translate-takes (call κs a r s p) q legal e room =
+    let h = accepts-every-legal κs a r s p q legal e room in
+    (h .0, h .1, ap translatedNumber (h .0), ap translatedValue (h .0))
 
 -- whatever it takes are the bytes of a legal recipe, and of no other; the count is that recipe's, and at most 36,829
 pub translate-takes-only : {input output output′ : List ℕ} {t : Translated} → Translate input output t output′ → (count : ℕ)
