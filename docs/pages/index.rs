@@ -289,7 +289,8 @@ mod tests {
             "-- a \"first one\", and \"a second\n-- one .. here\"\nx : \"no\"\n// -- \"n\"\n";
         let found: Vec<String> = quotations(text, "--").into_iter().map(|(_, q)| q).collect();
         assert_eq!(found, ["first one", "a second one .. here"]);
-        let quoted = Quoted::of(&["| Sentence | D |\n|---|---|\n| The *first* one. And `a` second one, | x |\n| not there but here. | y |\n"]);
+        let rows = "| The *first* one. And `a` second one, | x |\n| not there but here. | y |\n";
+        let quoted = Quoted::of(&[&format!("| Sentence | D |\n|---|---|\n{rows}")]);
         assert!(quoted.has("first one"));
         assert!(quoted.has("a second one .. here"));
         assert!(!quoted.has("here .. a second one"));

@@ -94,7 +94,8 @@ module _ (xs : List ℕ) (few : suc (length xs) ≤ 4096) where
   abbrev First : ℕ → Type 0
   First k =
       Faultless (k ∷ xs) 1 false
-      → itemsCount (withItems (itemsAt (k ∷ xs)) (readFrom 2048 (drop (sizeOf (k ∷ xs)) (k ∷ xs)) (0 + sizeOf (k ∷ xs)) 2 (eqb k 0x0F)) .items)
+      → itemsCount
+      (withItems (itemsAt (k ∷ xs)) (readFrom 2048 (drop (sizeOf (k ∷ xs)) (k ∷ xs)) (0 + sizeOf (k ∷ xs)) 2 (eqb k 0x0F)) .items)
       ≤ 1082
 
   first-open : First 0x01

@@ -1,5 +1,5 @@
--- What a restart finds once a recipe has arrived whole, on either port, over the real contract of `restart_with`: the contract is the rules'
--- restart, of which crate update_rules says it.
+-- What a restart finds once a recipe has arrived whole, on either port, over the real contract of `restart_with`: the contract is the
+-- rules' restart, of which crate update_rules says it.
 -- Assumes nothing.
 use mathlib.Core.Path.{_≡_, _∙_, ap}
 use mathlib.Core.Bool.{true}
