@@ -51,6 +51,6 @@ printedItems (i ∷ is) = printedItem i ++ printedItems is
 unfoldable pub printed : Recipe → List ℕ
 printed r = 0x01 ∷ r .moduleNumber ∷ r .groupNumber ∷ (printedItems (r .items) ++ (0x0F ∷ []))
 
--- Open and legal items, and then anything
+-- Open and items, and no Leave yet
 abbrev pub opened : ℕ → ℕ → List Item → List ℕ
 opened m g is = 0x01 ∷ m ∷ g ∷ printedItems is

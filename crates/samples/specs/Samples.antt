@@ -9,9 +9,7 @@ use Rattle.memory_address.specs.Rule.{ruled, isLegal}
 use Rattle.frame_rules.specs.Frame.{identifierOf, headOf}
 use Rattle.memory_leaves.specs.Leaves.{flashCellsAfter}
 use Rattle.memory_sum.specs.Sum.{firmwareSum, storedSumOf, starts}
-use Rattle.recipe.specs.declared.Translated.{Translated}
-use Rattle.recipe.specs.declared.Translated.the-variants.{Frames, Refused}
-use Rattle.recipe.specs.Translation.{translated, translatedOutput}
+use Rattle.recipe.specs.Translation.{translated, translatedNumber, translatedValue, translatedOutput}
 use Rattle.samples.specs.Entries.{Sample, bytes, number, verdict, S1, S2, S3, S4, S5, S6, S7, S8, S9, S10, S11, Blank}
 use Rattle.samples.specs.Uart.{numbersOf, leftByLast}
 
@@ -24,11 +22,6 @@ enterOnUart =
 abbrev pub rowRecipe : List ℕ
 rowRecipe =
     0x01 ∷ 0x05 ∷ 0x0A ∷ 0x03 ∷ 0xF0 ∷ 0x00 ∷ 0x30 ∷ 0x41 ∷ 0x42 ∷ 0x43 ∷ 0x44 ∷ 0x45 ∷ 0x46 ∷ 0x47 ∷ 0x48 ∷ 0x0F ∷ []
-
--- how many frames a translation reports; none where it is refused
-abbrev pub countIn : Translated → ℕ
-countIn (Frames count) = count
-countIn (Refused refusal place) = 0
 
 unfoldable pub samples : List Sample
 samples =
@@ -59,7 +52,8 @@ samples =
     bytes S10 (flashCellsAfter (replicate 8 0x0F) (replicate 8 0xF3)) (replicate 8 0x03) ∷
     -- "S11 recipe .. gives 36 bytes: 03 00 05 0A F0 00 30 FF FF 02 FF FF, 04 00 05 0A 41 42 43 44 45 46 47 48,
     -- 02 00 05 0A FF FF FF FF FF FF FF FF"
-    number S11 (countIn (translated rowRecipe 36)) 3 ∷
+    number S11 (translatedNumber (translated rowRecipe 36)) 0 ∷
+    number S11 (translatedValue (translated rowRecipe 36)) 3 ∷
     bytes S11 (translatedOutput rowRecipe (replicate 36 0))
     (0x03 ∷ 0x00 ∷ 0x05 ∷ 0x0A ∷ 0xF0 ∷ 0x00 ∷ 0x30 ∷ 0xFF ∷ 0xFF ∷ 0x02 ∷ 0xFF ∷ 0xFF ∷
     0x04 ∷ 0x00 ∷ 0x05 ∷ 0x0A ∷ 0x41 ∷ 0x42 ∷ 0x43 ∷ 0x44 ∷ 0x45 ∷ 0x46 ∷ 0x47 ∷ 0x48 ∷
