@@ -3,6 +3,7 @@ use crate::hand;
 use crate::hand::Handed;
 use crate::header::Header;
 use crate::line::Line;
+use crate::pieces;
 use crate::slices;
 use crate::start;
 use recipe::Translated;
@@ -54,30 +55,59 @@ fn done(count: usize, output: &[u8], h: Handed, flash: &[u8], eeprom: &[u8]) -> 
     }
 }
 
-// The frames of an output, handed to a node over prepared memories.
+// The frames of an output, handed to a node over prepared memories, one by one.
 fn hand_over(h: Header, count: usize, output: &[u8], flash: &mut [u8], eeprom: &mut [u8]) -> Line {
     let first = started(h, flash, eeprom);
     let last = hand::frames(first, h.port, output, count, flash, eeprom);
     done(count, output, last, flash, eeprom)
 }
 
-fn apply(h: Header, count: usize, output: &[u8], flash: &mut [u8], eeprom: &mut [u8]) -> Line {
+// The same in pieces: the bytes of all the wrapped frames stand in `serial`, one behind the other.
+fn hand_pieces(
+    h: Header,
+    count: usize,
+    output: &[u8],
+    serial: &mut [u8],
+    flash: &mut [u8],
+    eeprom: &mut [u8],
+) -> Line {
+    pieces::wrap_all(output, count, serial);
+    let first = started(h, flash, eeprom);
+    let bytes = slices::part(serial, 0, pieces::serial_length(count));
+    let last = pieces::pieces(first, h.piece, bytes, flash, eeprom);
+    done(count, output, last, flash, eeprom)
+}
+
+fn apply(
+    h: Header,
+    count: usize,
+    output: &[u8],
+    serial: &mut [u8],
+    flash: &mut [u8],
+    eeprom: &mut [u8],
+) -> Line {
     prepare(h, flash, eeprom);
+    if h.port != 0 {
+        if h.piece != 0 {
+            return hand_pieces(h, count, output, serial, flash, eeprom);
+        }
+    }
     hand_over(h, count, output, flash, eeprom)
 }
 
-// The line of a recipe, with the output that is lent to its translation.
+// The line of a recipe, with the output that is lent to its translation, and room for its frames as they go out on UART.
 pub fn recipe(
     h: Header,
     input: &[u8],
     output: &mut [u8],
+    serial: &mut [u8],
     flash: &mut [u8],
     eeprom: &mut [u8],
 ) -> Line {
     slices::fill(output, 0xEE, 0, 0);
     let t = recipe_translate::translate(input, output);
     match t {
-        Translated::Frames(count) => apply(h, count, output, flash, eeprom),
+        Translated::Frames(count) => apply(h, count, output, serial, flash, eeprom),
         Translated::Refused { number, place } => refused(number, place, output),
     }
 }

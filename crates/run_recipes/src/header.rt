@@ -4,7 +4,7 @@ use crate::start::Begin;
 use base::byte_at;
 
 // A header: the port (0 CAN, else UART), the fills and their steps, the own numbers, the recipe's length and that of the lent output,
-// and the record that the delivery begins with.
+// the record that the delivery begins with, and the length of a piece on UART (0: byte by byte).
 pub struct Header {
     pub port: u8,
     pub flash: u8,
@@ -16,6 +16,7 @@ pub struct Header {
     pub length: usize,
     pub room: usize,
     pub begin: Begin,
+    pub piece: usize,
 }
 
 // The four bytes from i on as a number, high byte first.
@@ -42,5 +43,6 @@ pub fn read(s: &[u8]) -> Header {
         length: number(s, 6),
         room: number(s, 10),
         begin: start::read(s),
+        piece: byte_at(s, 38) as usize * 256 + byte_at(s, 39) as usize,
     }
 }

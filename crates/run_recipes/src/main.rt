@@ -4,6 +4,7 @@ mod apply;
 mod hand;
 mod header;
 mod line;
+mod pieces;
 mod slices;
 mod start;
 
@@ -23,33 +24,55 @@ fn handle(
     h: Header,
     space: &mut [u8],
     output: &mut [u8],
+    serial: &mut [u8],
     flash: &mut [u8],
     eeprom: &mut [u8],
 ) {
     read_recipe(h.length, space);
     let input = slices::part(space, 0, h.length);
     let out = slices::lent(output, h.room);
-    let l = apply::recipe(h, input, out, flash, eeprom);
+    let l = apply::recipe(h, input, out, serial, flash, eeprom);
     line::print(at, l);
 }
 
 // Reads a header, and handles its recipe. Answers whether there was one.
-fn turn(at: u64, space: &mut [u8], output: &mut [u8], flash: &mut [u8], eeprom: &mut [u8]) -> bool {
+fn turn(
+    at: u64,
+    space: &mut [u8],
+    output: &mut [u8],
+    serial: &mut [u8],
+    flash: &mut [u8],
+    eeprom: &mut [u8],
+) -> bool {
     let mut record = [0u8; 64];
     let n = io::read_full(0, &mut record);
     if n < 64 {
         return false;
     }
-    handle(at, header::read(&record), space, output, flash, eeprom);
+    handle(
+        at,
+        header::read(&record),
+        space,
+        output,
+        serial,
+        flash,
+        eeprom,
+    );
     true
 }
 
 // The whole stream. A loop has to end, so recipes are counted, up to a number that no stream uses up.
-fn stream(space: &mut [u8], output: &mut [u8], flash: &mut [u8], eeprom: &mut [u8]) {
+fn stream(
+    space: &mut [u8],
+    output: &mut [u8],
+    serial: &mut [u8],
+    flash: &mut [u8],
+    eeprom: &mut [u8],
+) {
     let mut at: u32 = 0;
     while at < 0xFFFFFFFE {
         at += 1;
-        if !turn(at as u64, space, output, flash, eeprom) {
+        if !turn(at as u64, space, output, serial, flash, eeprom) {
             return;
         }
     }
@@ -58,7 +81,14 @@ fn stream(space: &mut [u8], output: &mut [u8], flash: &mut [u8], eeprom: &mut [u
 fn main() {
     let mut space = [0u8; 139_264];
     let mut output = [0u8; 441_948];
+    let mut serial = [0u8; 552_435];
     let mut flash = [0u8; 65536];
     let mut eeprom = [0u8; 1024];
-    stream(&mut space, &mut output, &mut flash, &mut eeprom);
+    stream(
+        &mut space,
+        &mut output,
+        &mut serial,
+        &mut flash,
+        &mut eeprom,
+    );
 }
