@@ -1,0 +1,168 @@
+-- Pieces one after the other, each handed any first part of the bytes that are left, against the same bytes one by one: the outcomes other
+-- than 10 and what stands at the end are the same. A piece is the bytes that it takes: before its last each gives 10, and behind it stands
+-- what stands behind those bytes, tidied, to which the next byte does what it does to the untidied. What a frame asks, and what 11 leaves,
+-- are not looked at.
+-- Assumes nothing.
+use mathlib.Core.Path.{_≡_, _∙_, refl, sym, ap, subst}
+use mathlib.Core.Bool.{Bool, true, false, cond, false≢true}
+use mathlib.Core.List.{List, [], _∷_, _++_}
+use mathlib.Core.Logic.{_⊎_, ⊎-elim}
+use Prim.Native.Nat.{ℕ, suc, _+_, _≤_}
+use native.Mathlib.Omega.{arith}
+use lib.Dec.{eqb}
+use lib.ListN.{length, take, drop, length-drop, length-append}
+use lib.Seq.{take-append-le, take-add, drop-drop}
+use Rattle.node_rules.specs.declared.Node.{Node}
+use Rattle.node_rules.specs.Record.{tidied}
+use Rattle.node_rules.specs.Uart.{UartStep, uartStep, silent}
+use Rattle.node_rules.specs.Runs.{State, state, endOf, behindByte, bytesIn}
+use Rattle.node_rules.proofs.Running.{steps-append, end-append}
+use Rattle.node_rules.proofs.Agreement.{byte-tidied}
+use Rattle.node_rules.proofs.Tidying.{tidy-twice}
+use Rattle.node_rules.proofs.StaysTidy.{uart-tidy}
+use Rattle.node_piece_rules.specs.Piece.{PieceStep, takesNone, takenOf, noByte, lastOf, pieceStep, butTens, takenInAll, lastsOf}
+use Rattle.node_piece_rules.proofs.Opening.{open-waits}
+use Rattle.node_piece_rules.proofs.Taking.{taken-bytes}
+use Rattle.node_piece_rules.proofs.Answering.{piece-few, piece-by, piece-heard, open-takes-one}
+
+-- ---- the outcomes other than 10
+
+tens-append : (xs ys : List UartStep) → butTens (xs ++ ys) ≡ butTens xs ++ butTens ys
+tens-append [] ys = refl
+tens-append (x ∷ xs) ys = go (eqb (x .answer .number) 10) (tens-append xs ys)
+  where
+    go : (b : Bool) → butTens (xs ++ ys) ≡ butTens xs ++ butTens ys
+        → cond b (butTens (xs ++ ys)) (x ∷ butTens (xs ++ ys)) ≡ cond b (butTens xs) (x ∷ butTens xs) ++ butTens ys
+    go true h = h
+    go false h = ap (λ (zs : List UartStep). x ∷ zs) h
+
+-- of what is taken only the last can be one of them
+only-last : (s₀ : UartStep) (ss : List UartStep) → (takenOf ss ≡ [] → eqb (s₀ .answer .number) 10 ≡ true)
+    → butTens (takenOf ss) ≡ butTens (lastOf s₀ (takenOf ss) ∷ [])
+only-last s₀ [] q = rw (q refl) refl
+only-last s₀ (s ∷ ss) q = go (takesNone (s .answer .number)) (eqb (s .answer .number) 10) refl (only-last s ss) q
+  where
+    go : (p t : Bool) → eqb (s .answer .number) 10 ≡ t
+        → ((takenOf ss ≡ [] → eqb (s .answer .number) 10 ≡ true) → butTens (takenOf ss) ≡ butTens (lastOf s (takenOf ss) ∷ []))
+        → (cond p [] (s ∷ cond t (takenOf ss) []) ≡ [] → eqb (s₀ .answer .number) 10 ≡ true)
+        → butTens (cond p [] (s ∷ cond t (takenOf ss) [])) ≡ butTens (lastOf s₀ (cond p [] (s ∷ cond t (takenOf ss) [])) ∷ [])
+    go true t e h k = rw (k refl) refl
+    go false true e h k = rw e (h (λ _. e))
+    go false false e h k = rw e refl
+
+-- ---- tidied or not, the bytes that come do the same
+
+abbrev pub tidiedState : State → State
+tidiedState s = state (tidied (s .node)) (s .flash) (s .eeprom)
+
+from-tidied : (bs : List ℕ) (s : State) → bytesIn bs (tidiedState s) ≡ bytesIn bs s
+from-tidied [] s = refl
+from-tidied (b ∷ bs) s =
+    ap (λ (x : UartStep). x ∷ bytesIn bs (behindByte x)) (sym (byte-tidied (s .node) b (s .flash) (s .eeprom)))
+
+end-tidied : (ss : List UartStep) (s : State) → tidiedState (endOf behindByte (tidiedState s) ss) ≡ tidiedState (endOf behindByte s ss)
+end-tidied [] s = ap (λ (n : Node). state n (s .flash) (s .eeprom)) (tidy-twice (s .node))
+end-tidied (x ∷ ss) s = refl
+
+-- ---- one piece
+
+last-behind : (s₀ x : UartStep) (s : State) (ss : List UartStep) → endOf behindByte s (x ∷ ss) ≡ behindByte (lastOf s₀ (x ∷ ss))
+last-behind s₀ x s [] = refl
+last-behind s₀ x s (y ∷ ss) = last-behind x y (behindByte x) ss
+
+module _ (n : Node) (p flash eeprom : List ℕ) where
+  abbrev here : State
+  here = state n flash eeprom
+
+  -- the bytes that are taken
+  abbrev bytes : List ℕ
+  bytes = take (pieceStep n p flash eeprom .taken) p
+
+  bytes-taken : bytesIn bytes here ≡ takenOf (bytesIn p here)
+  unfolding pieceStep
+  bytes-taken = taken-bytes p here
+
+  last-is-tidy : tidied (pieceStep n p flash eeprom .last .answer .node) ≡ pieceStep n p flash eeprom .last .answer .node
+  last-is-tidy =
+      piece-by n p flash eeprom (λ (x : UartStep). tidied (x .answer .node) ≡ x .answer .node) (tidy-twice n)
+      (λ m b _. uart-tidy m b flash eeprom)
+
+  -- behind a piece stands what stands behind those bytes, tidied
+  behind-piece : behindByte (pieceStep n p flash eeprom .last) ≡ tidiedState (endOf behindByte here (bytesIn bytes here))
+  unfolding pieceStep
+  behind-piece =
+      go (takenOf (bytesIn p here)) refl ∙ ap (λ (ss : List UartStep). tidiedState (endOf behindByte here ss)) (sym bytes-taken)
+    where
+      go : (ss : List UartStep) → takenOf (bytesIn p here) ≡ ss
+          → behindByte (lastOf (noByte n flash eeprom) (takenOf (bytesIn p here)))
+          ≡ tidiedState (endOf behindByte here (takenOf (bytesIn p here)))
+      go [] e = rw e refl
+      go (x ∷ ss) e =
+          let y = lastOf (noByte n flash eeprom) (takenOf (bytesIn p here)) in
+          ap (λ (m : Node). state m (y .flash) (y .eeprom)) (sym last-is-tidy)
+          ∙ ap tidiedState
+          (ap (λ (ts : List UartStep). behindByte (lastOf (noByte n flash eeprom) ts)) e
+          ∙ sym (last-behind (noByte n flash eeprom) x here ss)
+          ∙ ap (endOf behindByte here) (sym e))
+
+  -- and its outcome is those bytes' only one other than 10
+  piece-tells : takesNone (pieceStep n p flash eeprom .last .answer .number) ≡ false
+      → butTens (bytesIn bytes here) ≡ butTens (pieceStep n p flash eeprom .last ∷ [])
+  unfolding pieceStep
+  piece-tells f =
+      ap butTens bytes-taken
+      ∙ only-last (noByte n flash eeprom) (bytesIn p here)
+      (λ _. ap (λ (x : UartStep). eqb (x .answer .number) 10) (open-waits n flash eeprom (piece-heard n p flash eeprom f)))
+
+-- ---- pieces
+
+-- what is said of pieces that were handed parts of rs from s on, with `end` behind the last
+abbrev pub Cut : List ℕ → State → List PieceStep → State → Type 0
+Cut rs s ps end =
+    (butTens (lastsOf ps) ≡ butTens (bytesIn (take (takenInAll ps) rs) s))
+    × (tidiedState end ≡ tidiedState (endOf behindByte s (bytesIn (take (takenInAll ps) rs) s)))
+
+-- one piece more in front, handed p of p ++ q
+pub cut-more : (n : Node) (p q flash eeprom : List ℕ) (ps : List PieceStep) (end : State)
+    → takesNone (pieceStep n p flash eeprom .last .answer .number) ≡ false
+    → Cut (drop (pieceStep n p flash eeprom .taken) (p ++ q)) (behindByte (pieceStep n p flash eeprom .last)) ps end
+    → Cut (p ++ q) (state n flash eeprom) (pieceStep n p flash eeprom ∷ ps) end
+cut-more n p q flash eeprom ps end f ih =
+    let s = state n flash eeprom in
+    let one = pieceStep n p flash eeprom in
+    let k = one .taken in
+    let ys = take (takenInAll ps) (drop k (p ++ q)) in
+    let xs = take k p in
+    let e = endOf behindByte s (bytesIn xs s) in
+    let split : take (k + takenInAll ps) (p ++ q) ≡ xs ++ ys =
+    take-add k (takenInAll ps) (p ++ q)
+    ∙ ap (λ (zs : List ℕ). zs ++ ys) (take-append-le k p q (piece-few n p flash eeprom)) in
+    let step : ℕ → State → UartStep = λ b t. uartStep (t .node) b (t .flash) (t .eeprom) in
+    let there : behindByte (one .last) ≡ tidiedState e = behind-piece n p flash eeprom in
+    let later : bytesIn ys (behindByte (one .last)) ≡ bytesIn ys e = ap (bytesIn ys) there ∙ from-tidied ys e in
+    let all : bytesIn (take (k + takenInAll ps) (p ++ q)) s ≡ bytesIn xs s ++ bytesIn ys e =
+    ap (λ (zs : List ℕ). bytesIn zs s) split ∙ steps-append step behindByte xs ys s in (
+      tens-append (one .last ∷ []) (lastsOf ps)
+          ∙ ap (λ (zs : List UartStep). butTens (one .last ∷ []) ++ zs) (ih .0 ∙ ap butTens later)
+          ∙ ap (λ (zs : List UartStep). zs ++ butTens (bytesIn ys e)) (sym (piece-tells n p flash eeprom f))
+          ∙ sym (tens-append (bytesIn xs s) (bytesIn ys e)) ∙ sym (ap butTens all),
+      ih .1
+          ∙ ap (λ (zs : List UartStep). tidiedState (endOf behindByte (behindByte (one .last)) zs)) later
+          ∙ ap (λ (t : State). tidiedState (endOf behindByte t (bytesIn ys e))) there
+          ∙ end-tidied (bytesIn ys e) e
+          ∙ ap tidiedState (sym (end-append step behindByte (bytesIn xs s) (bytesIn ys e) s))
+          ∙ sym (ap (λ (zs : List UartStep). tidiedState (endOf behindByte s zs)) all),
+    )
+
+-- what is left
+pub left-more : (k : ℕ) (ps : List PieceStep) (rs : List ℕ) → drop (takenInAll ps) (drop k rs) ≡ drop (k + takenInAll ps) rs
+left-more k ps rs = drop-drop (takenInAll ps) k rs
+
+-- a piece with a byte in it that isn't refused leaves fewer bytes than there were
+pub piece-gets-on : (n : Node) (b : ℕ) (p q flash eeprom : List ℕ)
+    → takesNone (pieceStep n (b ∷ p) flash eeprom .last .answer .number) ≡ false
+    → suc (length (drop (pieceStep n (b ∷ p) flash eeprom .taken) (b ∷ p ++ q))) ≤ length (b ∷ p ++ q)
+piece-gets-on n b p q flash eeprom f =
+    let k = pieceStep n (b ∷ p) flash eeprom .taken in
+    let one = open-takes-one n b p flash eeprom (piece-heard n (b ∷ p) flash eeprom f) in
+    omega (arith, one, length-drop k (b ∷ p ++ q))

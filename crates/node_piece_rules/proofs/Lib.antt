@@ -1,0 +1,4 @@
+pub mod Opening
+pub mod Taking
+pub mod Answering
+pub mod Cutting
