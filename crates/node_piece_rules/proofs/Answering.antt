@@ -14,6 +14,8 @@ use Rattle.node_rules.specs.Record.{tidied}
 use Rattle.node_rules.specs.Uart.{UartStep, uartStep, silent}
 use Rattle.node_rules.specs.Runs.{State, state, endOf, behindByte, bytesIn, AllTen}
 use Rattle.node_rules.specs.Others.{emptied}
+use Rattle.node_rules.proofs.Agreement.{byte-tidied}
+use Rattle.node_rules.proofs.Tidying.{tidy-twice}
 use Rattle.node_piece_rules.specs.Piece.{PieceStep, takesNone, takenOf, noByte, lastOf, lastTaken, pieceStep}
 use Rattle.node_piece_rules.proofs.Opening.{Refused, Opened, refused-or-open, open-waits, open-hears, still-open}
 use Rattle.node_piece_rules.proofs.Taking.{none-there, last-is, taken-few}
@@ -41,16 +43,18 @@ module _ (n : Node) (bs flash eeprom : List ℕ) where
   unfolding pieceStep
   piece-few = taken-few bs (state n flash eeprom)
 
-  -- what holds of `noByte`, and of any byte to the node with other bytes held, holds of a piece
+  -- what holds of `noByte`, and of any byte to the tidied node with other bytes held, holds of a piece
   pub piece-by : (P : UartStep → Type 0) → P (noByte n flash eeprom)
-      → ((m : Node) (b : ℕ) → emptied (tidied m) ≡ emptied (tidied n) → P (uartStep m b flash eeprom))
+      → ((m : Node) (b : ℕ) → emptied m ≡ emptied (tidied n) → tidied m ≡ m → P (uartStep m b flash eeprom))
       → P (pieceStep n bs flash eeprom .last)
   piece-by P none some = go (pieceStep n bs flash eeprom .taken) refl
     where
       go : (k : ℕ) → pieceStep n bs flash eeprom .taken ≡ k → P (pieceStep n bs flash eeprom .last)
       go zero e = subst P (sym (piece-none e)) none
       go (suc j) e =
-          let h = piece-some j e in subst P (sym (h .0)) (some (nodeBefore j) (getD bs j 0) (h .1))
+          let h = piece-some j e in
+          let m = nodeBefore j in
+          subst P (sym (h .0 ∙ byte-tidied m (getD bs j 0) flash eeprom)) (some (tidied m) (getD bs j 0) (h .1) (tidy-twice m))
 
   -- where bytes are refused none is taken
   pub refused-takes-none : Refused n flash eeprom → pieceStep n bs flash eeprom ≡ lastTaken (noByte n flash eeprom) []
@@ -67,7 +71,7 @@ module _ (n : Node) (bs flash eeprom : List ℕ) where
   open-never-refuses o =
       piece-by (λ (x : UartStep). takesNone (x .answer .number) ≡ false)
       (ap (λ (x : UartStep). takesNone (x .answer .number)) (open-waits n flash eeprom o))
-      (λ m b e. open-hears m flash eeprom (still-open n m flash eeprom e o) b)
+      (λ m b e t. open-hears m flash eeprom (still-open n m flash eeprom (ap emptied t ∙ e) o) b)
 
   -- 1, 2 or 3: no byte is taken, and any byte would be refused with that
   pub piece-refused : takesNone (pieceStep n bs flash eeprom .last .answer .number) ≡ true
@@ -76,8 +80,8 @@ module _ (n : Node) (bs flash eeprom : List ℕ) where
   piece-refused t =
       ⊎-elim
       (λ r.
-          let e = refused-takes-none r in
-          (ap (λ (p : PieceStep). p .taken) e, λ b. r .1 b ∙ sym (ap (λ (p : PieceStep). p .last) e)))
+      let e = refused-takes-none r in
+      (ap (λ (p : PieceStep). p .taken) e, λ b. r .1 b ∙ sym (ap (λ (p : PieceStep). p .last) e)))
       (λ o. absurd (false≢true (sym (open-never-refuses o) ∙ t)))
       (refused-or-open n flash eeprom)
 
@@ -86,7 +90,7 @@ module _ (n : Node) (bs flash eeprom : List ℕ) where
   piece-heard f =
       ⊎-elim
       (λ r.
-          absurd (false≢true (sym f ∙ ap (λ (p : PieceStep). takesNone (p .last .answer .number)) (refused-takes-none r) ∙ r .0)))
+      absurd (false≢true (sym f ∙ ap (λ (p : PieceStep). takesNone (p .last .answer .number)) (refused-takes-none r) ∙ r .0)))
       (λ o. o)
       (refused-or-open n flash eeprom)
 

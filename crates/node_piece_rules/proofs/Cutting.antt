@@ -55,7 +55,7 @@ only-last s₀ (s ∷ ss) q = go (takesNone (s .answer .number)) (eqb (s .answer
 abbrev pub tidiedState : State → State
 tidiedState s = state (tidied (s .node)) (s .flash) (s .eeprom)
 
-from-tidied : (bs : List ℕ) (s : State) → bytesIn bs (tidiedState s) ≡ bytesIn bs s
+pub from-tidied : (bs : List ℕ) (s : State) → bytesIn bs (tidiedState s) ≡ bytesIn bs s
 from-tidied [] s = refl
 from-tidied (b ∷ bs) s =
     ap (λ (x : UartStep). x ∷ bytesIn bs (behindByte x)) (sym (byte-tidied (s .node) b (s .flash) (s .eeprom)))
@@ -85,7 +85,7 @@ module _ (n : Node) (p flash eeprom : List ℕ) where
   last-is-tidy : tidied (pieceStep n p flash eeprom .last .answer .node) ≡ pieceStep n p flash eeprom .last .answer .node
   last-is-tidy =
       piece-by n p flash eeprom (λ (x : UartStep). tidied (x .answer .node) ≡ x .answer .node) (tidy-twice n)
-      (λ m b _. uart-tidy m b flash eeprom)
+      (λ m b _ _. uart-tidy m b flash eeprom)
 
   -- behind a piece stands what stands behind those bytes, tidied
   behind-piece : behindByte (pieceStep n p flash eeprom .last) ≡ tidiedState (endOf behindByte here (bytesIn bytes here))

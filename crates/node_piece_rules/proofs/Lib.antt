@@ -2,3 +2,4 @@ pub mod Opening
 pub mod Taking
 pub mod Answering
 pub mod Cutting
+pub mod Spoiling

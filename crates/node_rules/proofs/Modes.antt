@@ -136,13 +136,13 @@ after-programming (Programs s) n f h p e = ⊎-elim (λ q. absurd (false≢true 
 after-programming Waits n f h p e = absurd (false≢true e)
 
 -- a tidied record is in the mode it was in
-tidy-normal : (m : Mode) (b : Bool) → tidyMode m ≡ Normal b → m ≡ Normal b
+pub tidy-normal : (m : Mode) (b : Bool) → tidyMode m ≡ Normal b → m ≡ Normal b
 tidy-normal (Normal c) b e = e
 tidy-normal (Programming s) b e = cc
 tidy-normal Error b e = cc
 tidy-normal Waiting b e = cc
 
-tidy-programming : (m : Mode) → isProgramming (tidyMode m) ≡ isProgramming m
+pub tidy-programming : (m : Mode) → isProgramming (tidyMode m) ≡ isProgramming m
 tidy-programming (Normal c) = refl
 tidy-programming (Programming s) = refl
 tidy-programming Error = refl

@@ -123,7 +123,7 @@ can-tidy n f flash eeprom =
 
 -- ---- a UART byte: what is held afterwards may be held
 
-with-holdable : (xs : List ℕ) (b : ℕ) → Holdable xs → incomplete (heldWith xs b) ≡ true → Holdable (heldWith xs b)
+pub with-holdable : (xs : List ℕ) (b : ℕ) → Holdable xs → incomplete (heldWith xs b) ≡ true → Holdable (heldWith xs b)
 with-holdable [] b h e = go (eqb b 0xAA) refl
   where
     go : (t : Bool) → eqb b 0xAA ≡ t → Holdable (cond t (b ∷ []) [])
@@ -137,7 +137,7 @@ unfolding heldAfterBad
 bad-holdable c fifteen = tt
 
 -- 10 comes only where the frame is incomplete
-only-ten : (n : Node) (full : Bool) (xs : List ℕ) → heldDecided n full xs .number ≡ 10 → incomplete xs ≡ true
+pub only-ten : (n : Node) (full : Bool) (xs : List ℕ) → heldDecided n full xs .number ≡ 10 → incomplete xs ≡ true
 only-ten n full xs =
     let Q : ℕ → Type 0 = λ number. number ≡ 10 → incomplete xs ≡ true in
     let other : (number : ℕ) → (number ≡ 10 → ⊥) → Q number = λ number m e. absurd (m e) in

@@ -1,2 +1,2 @@
 pub mod Tight
-mod Listening
+pub mod Listening

@@ -30,7 +30,7 @@ use Rattle.node_rules.proofs.Tidying.{held-holdable, holdable-few, still-held, 
 use Rattle.node_rules.proofs.Agreement.{with-byte, byte-tidied}
 use Rattle.node_record.proofs.Tidied.{withReceiver}
 
-open-pin : (p : Pin) → isClosed p ≡ false → p ≡ CanAndUart
+pub open-pin : (p : Pin) → isClosed p ≡ false → p ≡ CanAndUart
 open-pin CanOnly e = absurd (false≢true (sym e))
 open-pin CanAndUart e = refl
 
