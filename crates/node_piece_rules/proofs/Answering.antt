@@ -2,21 +2,21 @@
 -- each byte holds of a piece; and a piece takes none of its bytes just where each of them would be refused with 1, 2 or 3.
 -- Assumes nothing.
 use mathlib.Core.Path.{_≡_, _∙_, refl, sym, ap, subst}
-use mathlib.Core.Bool.{Bool, true, false, cond, false≢true}
+use mathlib.Core.Bool.{true, false, false≢true}
 use mathlib.Core.List.{List, [], _∷_}
 use mathlib.Core.Logic.{_⊎_, ⊎-elim, inl, inr}
 use Prim.Native.Nat.{ℕ, zero, suc, _≤_}
 use native.Mathlib.Omega.{arith}
-use lib.Dec.{eqb}
 use lib.ListN.{length, getD, take}
 use Rattle.node_rules.specs.declared.Node.{Node}
 use Rattle.node_rules.specs.Record.{tidied}
 use Rattle.node_rules.specs.Uart.{UartStep, uartStep, silent}
-use Rattle.node_rules.specs.Runs.{State, state, endOf, behindByte, bytesIn, AllTen}
+use Rattle.node_rules.specs.Runs.{state, endOf, behindByte, bytesIn, AllTen}
 use Rattle.node_rules.specs.Others.{emptied}
 use Rattle.node_rules.proofs.Agreement.{byte-tidied}
 use Rattle.node_rules.proofs.Tidying.{tidy-twice}
 use Rattle.node_piece_rules.specs.Piece.{PieceStep, takesNone, takenOf, noByte, lastOf, lastTaken, pieceStep}
+use Rattle.node_piece_rules.proofs.Stopping.{stops-before, by-taken}
 use Rattle.node_piece_rules.proofs.Opening.{Refused, Opened, refused-or-open, open-waits, open-hears, still-open}
 use Rattle.node_piece_rules.proofs.Taking.{none-there, last-is, taken-few}
 
@@ -64,7 +64,10 @@ module _ (n : Node) (bs flash eeprom : List ℕ) where
       go : (cs : List ℕ)
           → lastTaken (noByte n flash eeprom) (takenOf (bytesIn cs (state n flash eeprom))) ≡ lastTaken (noByte n flash eeprom) []
       go [] = refl
-      go (c ∷ cs) = rw (ap (λ (x : UartStep). takesNone (x .answer .number)) (r .1 c) ∙ r .0) refl
+      go (c ∷ cs) =
+          let x = uartStep n c flash eeprom in
+          ap (lastTaken (noByte n flash eeprom))
+          (stops-before x (bytesIn cs (behindByte x)) (ap (λ (y : UartStep). takesNone (y .answer .number)) (r .1 c) ∙ r .0))
 
   -- an open, running node refuses no piece
   pub open-never-refuses : Opened n flash eeprom → takesNone (pieceStep n bs flash eeprom .last .answer .number) ≡ false
@@ -100,8 +103,8 @@ pub open-takes-one : (n : Node) (b : ℕ) (bs flash eeprom : List ℕ) → Opene
 unfolding pieceStep
 open-takes-one n b bs flash eeprom o =
     let x = uartStep n b flash eeprom in
-    let later = cond (eqb (x .answer .number) 10) (takenOf (bytesIn bs (behindByte x))) [] in
-    subst (λ (p : Bool). 1 ≤ length (cond p [] (x ∷ later))) (sym (open-hears n flash eeprom o b)) (omega arith)
+    by-taken x (bytesIn bs (behindByte x)) (λ (ts : List UartStep). 1 ≤ length ts)
+    (λ e. absurd (false≢true (sym (open-hears n flash eeprom o b) ∙ e))) (λ _. omega arith) (λ _. omega arith)
 
 -- no byte: 10 of an open, running node
 pub open-empty : (n : Node) (flash eeprom : List ℕ) → Opened n flash eeprom

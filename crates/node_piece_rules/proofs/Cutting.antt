@@ -21,6 +21,7 @@ use Rattle.node_rules.proofs.Agreement.{byte-tidied}
 use Rattle.node_rules.proofs.Tidying.{tidy-twice}
 use Rattle.node_rules.proofs.StaysTidy.{uart-tidy}
 use Rattle.node_piece_rules.specs.Piece.{PieceStep, takesNone, takenOf, noByte, lastOf, pieceStep, butTens, takenInAll, lastsOf}
+use Rattle.node_piece_rules.proofs.Stopping.{by-taken}
 use Rattle.node_piece_rules.proofs.Opening.{open-waits}
 use Rattle.node_piece_rules.proofs.Taking.{taken-bytes}
 use Rattle.node_piece_rules.proofs.Answering.{piece-few, piece-by, piece-heard, open-takes-one}
@@ -40,15 +41,13 @@ tens-append (x ∷ xs) ys = go (eqb (x .answer .number) 10) (tens-append xs ys)
 only-last : (s₀ : UartStep) (ss : List UartStep) → (takenOf ss ≡ [] → eqb (s₀ .answer .number) 10 ≡ true)
     → butTens (takenOf ss) ≡ butTens (lastOf s₀ (takenOf ss) ∷ [])
 only-last s₀ [] q = rw (q refl) refl
-only-last s₀ (s ∷ ss) q = go (takesNone (s .answer .number)) (eqb (s .answer .number) 10) refl (only-last s ss) q
-  where
-    go : (p t : Bool) → eqb (s .answer .number) 10 ≡ t
-        → ((takenOf ss ≡ [] → eqb (s .answer .number) 10 ≡ true) → butTens (takenOf ss) ≡ butTens (lastOf s (takenOf ss) ∷ []))
-        → (cond p [] (s ∷ cond t (takenOf ss) []) ≡ [] → eqb (s₀ .answer .number) 10 ≡ true)
-        → butTens (cond p [] (s ∷ cond t (takenOf ss) [])) ≡ butTens (lastOf s₀ (cond p [] (s ∷ cond t (takenOf ss) [])) ∷ [])
-    go true t e h k = rw (k refl) refl
-    go false true e h k = rw e (h (λ _. e))
-    go false false e h k = rw e refl
+only-last s₀ (s ∷ ss) q =
+    by-taken s ss
+    (λ (ts : List UartStep). (ts ≡ [] → eqb (s₀ .answer .number) 10 ≡ true) → butTens ts ≡ butTens (lastOf s₀ ts ∷ []))
+    (λ _ k. rw (k refl) refl)
+    (λ t k. rw t (only-last s ss (λ _. t)))
+    (λ f k. rw f refl)
+    q
 
 -- ---- tidied or not, the bytes that come do the same
 

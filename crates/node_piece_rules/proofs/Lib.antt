@@ -1,3 +1,4 @@
+pub mod Stopping
 pub mod Opening
 pub mod Taking
 pub mod Answering

@@ -20,40 +20,29 @@ use Rattle.node_rules.specs.Runs.{State, state, endOf, behindByte, bytesIn, All
 use Rattle.node_rules.specs.Others.{leftOnUart, emptied}
 use Rattle.node_rules.proofs.Numbers.{uart-number, uart-refused}
 use Rattle.node_rules.proofs.StaysTidy.{uart-tidy}
-use Rattle.node_piece_rules.specs.Piece.{takesNone, takenOf, noByte, lastOf, pieceStep}
+use Rattle.node_piece_rules.specs.Piece.{takenOf, lastOf}
+use Rattle.node_piece_rules.proofs.Stopping.{by-taken}
 
 -- ---- what is taken
 
+-- a byte, and what stands behind it
+abbrev atOnce : State → ℕ → UartStep
+atOnce s b = uartStep (s .node) b (s .flash) (s .eeprom)
+
 pub taken-bytes : (bs : List ℕ) (s : State) → bytesIn (take (length (takenOf (bytesIn bs s))) bs) s ≡ takenOf (bytesIn bs s)
 taken-bytes [] s = refl
-taken-bytes (b ∷ bs) s = go (takesNone (x .answer .number)) (eqb (x .answer .number) 10) (taken-bytes bs (behindByte x))
-  where
-    x : UartStep
-    x = uartStep (s .node) b (s .flash) (s .eeprom)
-
-    later : List UartStep
-    later = takenOf (bytesIn bs (behindByte x))
-
-    go : (p q : Bool) → bytesIn (take (length later) bs) (behindByte x) ≡ later
-        → bytesIn (take (length (cond p [] (x ∷ cond q later []))) (b ∷ bs)) s ≡ cond p [] (x ∷ cond q later [])
-    go true q h = refl
-    go false true h = ap (λ (ts : List UartStep). x ∷ ts) h
-    go false false h = refl
+taken-bytes (b ∷ bs) s =
+    let x = atOnce s b in
+    by-taken x (bytesIn bs (behindByte x)) (λ (ts : List UartStep). bytesIn (take (length ts) (b ∷ bs)) s ≡ ts) (λ _. refl)
+    (λ _. ap (λ (ts : List UartStep). x ∷ ts) (taken-bytes bs (behindByte x))) (λ _. refl)
 
 pub taken-few : (bs : List ℕ) (s : State) → length (takenOf (bytesIn bs s)) ≤ length bs
 taken-few [] s = omega arith
-taken-few (b ∷ bs) s = go (takesNone (x .answer .number)) (eqb (x .answer .number) 10) (taken-few bs (behindByte x))
-  where
-    x : UartStep
-    x = uartStep (s .node) b (s .flash) (s .eeprom)
-
-    later : List UartStep
-    later = takenOf (bytesIn bs (behindByte x))
-
-    go : (p q : Bool) → length later ≤ length bs → length (cond p [] (x ∷ cond q later [])) ≤ suc (length bs)
-    go true q l = omega arith
-    go false true l = omega (arith, l)
-    go false false l = omega arith
+taken-few (b ∷ bs) s =
+    let x = atOnce s b in
+    let h = taken-few bs (behindByte x) in
+    by-taken x (bytesIn bs (behindByte x)) (λ (ts : List UartStep). length ts ≤ suc (length bs)) (λ _. omega arith) (λ _. omega (arith, h))
+    (λ _. omega arith)
 
 -- ---- one byte that gives 10
 
@@ -87,55 +76,39 @@ module _ (flash eeprom : List ℕ) where
   pub last-is : (bs : List ℕ) (m : Node) (s₀ : UartStep) (j : ℕ) → length (takenOf (bytesIn bs (state m flash eeprom))) ≡ suc j
       → LastIs s₀ bs m (state m flash eeprom) j
   last-is [] m s₀ j l = absurd (suc-ne-zero j (sym l))
-  last-is (b ∷ bs) m s₀ zero l = go (takesNone (x .answer .number)) (eqb (x .answer .number) 10) l
-    where
-      x : UartStep
-      x = uartStep m b flash eeprom
-
-      later : List UartStep
-      later = takenOf (bytesIn bs (behindByte x))
-
-      go : (p q : Bool) → length (cond p [] (x ∷ cond q later [])) ≡ 1
-          → (lastOf s₀ (cond p [] (x ∷ cond q later [])) ≡ x) × (emptied (tidied m) ≡ emptied (tidied m)) × Unit {0}
-      go true q k = absurd (suc-ne-zero 0 (sym k))
-      go false true k = (ap (lastOf x) (none-there later (suc-inj k)), refl, tt)
-      go false false k = (refl, refl, tt)
+  last-is (b ∷ bs) m s₀ zero l =
+      let x = uartStep m b flash eeprom in
+      by-taken x (bytesIn bs (behindByte x))
+      (λ (ts : List UartStep). length ts ≡ 1 → (lastOf s₀ ts ≡ x) × (emptied (tidied m) ≡ emptied (tidied m)) × Unit {0})
+      (λ _ k. absurd (suc-ne-zero 0 (sym k)))
+      (λ _ k. (ap (lastOf x) (none-there (takenOf (bytesIn bs (behindByte x))) (suc-inj k)), refl, tt))
+      (λ _ k. (refl, refl, tt))
+      l
   last-is (b ∷ bs) m s₀ (suc j) l =
-      go (takesNone (x .answer .number)) (eqb (x .answer .number) 10) refl (last-is bs m′ x j) l
-    where
-      x : UartStep
-      x = uartStep m b flash eeprom
-
-      later : List UartStep
-      later = takenOf (bytesIn bs (behindByte x))
-
-      m′ : Node
-      m′ = leftOnUart 10 (tidied m) b
-
-      -- of the bytes behind this one, from what stands there
-      Onward : State → Type 0
-      Onward z = length (takenOf (bytesIn bs z)) ≡ suc j → LastIs x bs m′ z j
-
-      go : (p q : Bool) → eqb (x .answer .number) 10 ≡ q → Onward (state m′ flash eeprom)
-          → length (cond p [] (x ∷ cond q later [])) ≡ suc (suc j)
-          → (lastOf s₀ (cond p [] (x ∷ cond q later [])) ≡ uartStep (before bs (behindByte x) j .node) (getD bs j 0) flash eeprom)
-          × (emptied (tidied (before bs (behindByte x) j .node)) ≡ emptied (tidied m))
-          × AllTen flash eeprom (x ∷ bytesIn (take j bs) (behindByte x))
-      go true q t rest k = absurd (suc-ne-zero (suc j) (sym k))
-      go false false t rest k = absurd (suc-ne-zero j (sym (suc-inj k)))
-      go false true t rest k =
-          let e = ten-is m b flash eeprom t in
-          let h = subst Onward (ap behindByte (sym e)) rest (suc-inj k) in
-          let tidy : tidied m′ ≡ m′ =
-          subst (λ (y : UartStep). tidied (y .answer .node) ≡ y .answer .node) e (uart-tidy m b flash eeprom) in (
-            h .0,
-            h .1 ∙ ap emptied tidy,
-            subst (λ (y : UartStep). AllTen flash eeprom (y ∷ bytesIn (take j bs) (behindByte x))) (sym e) (
-              refl,
-              refl,
-              refl,
-              refl,
-              refl,
-              h .2,
-            ),
-          )
+      let x = uartStep m b flash eeprom in
+      let m′ = leftOnUart 10 (tidied m) b in
+      by-taken x (bytesIn bs (behindByte x))
+      (λ (ts : List UartStep). length ts ≡ suc (suc j)
+      → (lastOf s₀ ts ≡ uartStep (before bs (behindByte x) j .node) (getD bs j 0) flash eeprom)
+      × (emptied (tidied (before bs (behindByte x) j .node)) ≡ emptied (tidied m))
+      × AllTen flash eeprom (x ∷ bytesIn (take j bs) (behindByte x)))
+      (λ _ k. absurd (suc-ne-zero (suc j) (sym k)))
+      (λ t k.
+      let e = ten-is m b flash eeprom t in
+      let onward : State → Type 0 = λ z. length (takenOf (bytesIn bs z)) ≡ suc j → LastIs x bs m′ z j in
+      let h = subst onward (ap behindByte (sym e)) (last-is bs m′ x j) (suc-inj k) in
+      let tidy : tidied m′ ≡ m′ =
+      subst (λ (y : UartStep). tidied (y .answer .node) ≡ y .answer .node) e (uart-tidy m b flash eeprom) in (
+        h .0,
+        h .1 ∙ ap emptied tidy,
+        subst (λ (y : UartStep). AllTen flash eeprom (y ∷ bytesIn (take j bs) (behindByte x))) (sym e) (
+          refl,
+          refl,
+          refl,
+          refl,
+          refl,
+          h .2,
+        ),
+      ))
+      (λ _ k. absurd (suc-ne-zero j (sym (suc-inj k))))
+      l
