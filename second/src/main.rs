@@ -14,6 +14,8 @@ mod memory;
 mod node;
 mod node_record;
 mod numbers;
+#[cfg(test)]
+mod piece_samples;
 mod random;
 mod recipe;
 mod recipe_coverage;
