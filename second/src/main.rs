@@ -14,6 +14,7 @@ mod memory;
 mod node;
 mod node_record;
 mod numbers;
+mod piece_coverage;
 #[cfg(test)]
 mod piece_samples;
 mod random;
@@ -31,6 +32,7 @@ use std::io::{self, BufWriter, Read, Write};
 use std::process::ExitCode;
 
 const USAGE: &str = "second generate SEED SESSIONS EVENTS FULL > stream
+second pieces SEED SESSIONS EVENTS FULL > stream
 second answer < stream
 second coverage < stream
 second explain N < stream
@@ -59,10 +61,11 @@ fn run(arguments: &[&str], out: &mut impl Write) -> io::Result<Option<String>> {
         text.parse().map_err(|_| wrong())
     };
     match arguments {
-        ["generate", seed, sessions, events, full] => {
+        [command @ ("generate" | "pieces"), seed, sessions, events, full] => {
             let full = number(full)?.min(65_535) as u16;
             let (sessions, events) = (number(sessions)? as u32, number(events)?);
-            generate::generate(number(seed)?, sessions, events, full, out)?;
+            let in_pieces = *command == "pieces";
+            generate::generate(in_pieces, number(seed)?, sessions, events, full, out)?;
             Ok(None)
         }
         ["answer"] => session::answer_stream(&input()?, out).map(|_| None),

@@ -6,6 +6,7 @@ use crate::memory::{Lent, BOOTFL, EEPROM_CELLS, FLASH_CELLS, GROUP, MODULE};
 use crate::node::*;
 use crate::node_record;
 use crate::numbers::*;
+use crate::piece_coverage::{Met, Pieces};
 use crate::random::Random;
 use crate::samples::{bytes, can, session, uart, PROGRAM, WRAPPED_PROGRAM};
 use crate::session::{Answer, Session};
@@ -15,14 +16,7 @@ const WAIT: &str = "AA 10 20 01 01 00 00 05 0A 00 00 00 00 41 A5";
 
 /// The answers of some calls, each handed so many bytes of what the ring still holds.
 fn calls(session: &mut Session, ring: &[u8], lengths: &[u8]) -> Vec<Answer> {
-    let mut next = Some(Event::UartPieces { ring: ring.to_vec(), lengths: lengths.to_vec() });
-    let mut answers = Vec::new();
-    while let Some(event) = next.take() {
-        let mut answer = session.apply(&event).expect("a call");
-        next = answer.left.take();
-        answers.push(answer);
-    }
-    answers
+    session.apply_all(Event::UartPieces { ring: ring.to_vec(), lengths: lengths.to_vec() })
 }
 
 /// The number, bytes taken and replies of one piece.
@@ -134,6 +128,58 @@ fn records_of_pieces() {
     assert!(!line.contains("piece"));
     piece(&mut session, "2A");
     assert!(session.closing_line().ends_with(" piece 0 0 0 0 0 0 0 0 0 0 1 0"));
+}
+
+/// The rows that these calls reach in a node that heard some bytes before, by the last of them.
+fn rows(held: &str, ring: &str, lengths: &[u8]) -> Vec<&'static str> {
+    let mut session = session(0x00, 1);
+    uart(&mut session, held);
+    let mut next = Some(Event::UartPieces { ring: bytes(ring), lengths: lengths.to_vec() });
+    let (mut pieces, mut rows) = (Pieces::default(), vec![]);
+    while let Some(event) = next {
+        let before = session.node.clone();
+        let answer = session.apply(&event).expect("a call");
+        let met = Met::of(&before, &session, &event, &answer).expect("a piece");
+        rows = pieces.take(&met);
+        next = answer.left;
+    }
+    rows
+}
+
+/// What is told of pieces by themselves, and of those behind others.
+#[test]
+fn rows_of_pieces() {
+    const LEFT: &str = "ended by an outcome, bytes left over";
+    const LAST: &str = "last byte completes a frame";
+    let two = format!("{DESCRIBE} {DESCRIBE}");
+    assert_eq!(rows("", "", &[0]), ["empty, 10"]);
+    assert_eq!(rows("AA", "2A", &[0]), ["empty, 10", "empty, 10 with bytes held"]);
+    assert_eq!(rows("", "2A", &[9]), ["10, noise alone", "of one byte"]);
+    assert_eq!(rows("", &two, &[14]), ["10, all taken, bytes held behind it"]);
+    assert_eq!(rows("", &two, &[30]), [LEFT, "two whole frames", "two replies"]);
+    assert_eq!(
+        rows("", &two, &[20, 5]),
+        ["10, all taken, bytes held behind it", "leftovers alone"]
+    );
+    assert_eq!(rows("", &two, &[20, 15]), [LAST, "two replies", "leftovers with more behind them"]);
+    assert_eq!(
+        rows("", &two, &[3, 5, 0, 7]),
+        [LAST, "two replies", "a frame over three pieces or more"]
+    );
+    assert_eq!(rows("", &two, &[8, 7]), [LAST, "two replies"]);
+    assert_eq!(rows("", &format!("2A {WAIT}"), &[99]), ["noise, then a frame", LAST]);
+    assert_eq!(
+        rows(&DESCRIBE[..3 * 14], "A5 AA", &[2])[..2],
+        [LEFT, "first byte completes a frame"]
+    );
+    assert_eq!(
+        rows(&DESCRIBE[..3 * 14], "A4 AA", &[2]),
+        ["ended by 11, bytes left over", "first byte comes to 11"]
+    );
+    assert_eq!(
+        rows("", &format!("{WAIT} {WAIT}"), &[20, 30]),
+        ["3, none of some bytes taken", "0x101 or 0x102, and none of the bytes behind it taken, 3"]
+    );
 }
 
 /// A node with its memories, to be handed bytes in one way or another.

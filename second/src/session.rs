@@ -42,6 +42,13 @@ pub struct Answer {
     pub left: Option<Event>,
 }
 
+impl Answer {
+    /// The bytes that a piece took.
+    pub fn taken(&self) -> usize {
+        self.line[TAKEN_AT] as usize
+    }
+}
+
 /// Answer bytes of a number, replies of one width, and the node.
 fn with_replies(outcome: &Outcome, width: usize, node: &Node) -> Vec<u8> {
     let mut bytes = vec![outcome.number, outcome.replies.len() as u8];
@@ -104,6 +111,19 @@ impl Session {
         self.digest.add(&line);
         let left = line.get(TAKEN_AT).and_then(|&taken| event.calls_left(taken as usize));
         Some(Answer { number, line, left })
+    }
+
+    /// Does one event, all its calls; gives their answers.
+    pub fn apply_all(&mut self, event: Event) -> Vec<Answer> {
+        let mut answers = Vec::new();
+        let mut next = Some(event);
+        while let Some(event) = next.take() {
+            if let Some(mut answer) = self.apply(&event) {
+                next = answer.left.take();
+                answers.push(answer);
+            }
+        }
+        answers
     }
 
     /// Does one event; gives its answer bytes, the number first, where it has some.
