@@ -23,6 +23,7 @@ mod recipe_coverage;
 mod recipe_files;
 mod recipe_stream;
 mod recipes;
+mod recipes_in_pieces;
 #[cfg(test)]
 mod samples;
 mod session;
@@ -37,6 +38,7 @@ second answer < stream
 second coverage < stream
 second explain N < stream
 second recipes SEED COUNT > stream
+second recipes-in-pieces SEED COUNT > stream
 second apply-recipes < stream
 second recipe-coverage < stream
 second apply FILE
@@ -76,6 +78,10 @@ fn run(arguments: &[&str], out: &mut impl Write) -> io::Result<Option<String>> {
         },
         ["recipes", seed, count] => {
             recipes::recipes(number(seed)?, number(count)? as usize, out).map(|_| None)
+        }
+        ["recipes-in-pieces", seed, count] => {
+            let (seed, count) = (number(seed)?, number(count)? as usize);
+            recipes_in_pieces::recipes_in_pieces(seed, count, out).map(|_| None)
         }
         ["apply-recipes"] => apply_recipes::apply_recipes(&input()?, out),
         ["apply", file] => {

@@ -1,5 +1,6 @@
 //! UART in pieces: what each node says to a piece, where it stops, and that no cut matters.
 
+use crate::apply_recipes::apply_recipes;
 use crate::event::*;
 use crate::frames::{self, START};
 use crate::memory::{Lent, BOOTFL, EEPROM_CELLS, FLASH_CELLS, GROUP, MODULE};
@@ -8,6 +9,9 @@ use crate::node_record;
 use crate::numbers::*;
 use crate::piece_coverage::{Met, Pieces};
 use crate::random::Random;
+use crate::recipe::translate;
+use crate::recipe_stream::{read, Trial};
+use crate::recipes_in_pieces::{recipes_in_pieces, LONG_PIECES};
 use crate::samples::{bytes, can, session, uart, PROGRAM, WRAPPED_PROGRAM};
 use crate::session::{Answer, Session};
 
@@ -296,4 +300,36 @@ fn no_cut_matters() {
     for number in [DONE, MALFORMED, RESPONSE, NOT_HANDLED, NOT_FOR_NODE, ILLEGAL, 9, BAD_WRAPPING] {
         assert!(reached[number as usize] > 0, "{number} is not reached");
     }
+}
+
+/// A recipe in pieces ends as the plain reading says, whatever their length, with held bytes as
+/// byte by byte; a node that doesn't hear them takes none.
+#[test]
+fn recipes_in_pieces_of_any_length() {
+    let mut stream = Vec::new();
+    recipes_in_pieces(1, 40, &mut stream).unwrap();
+    for trial in read(&stream)[4..].iter().filter(|trial| trial.recipe.len() < 1_000) {
+        let mut lines = Vec::new();
+        for piece in [0, 1, 7, 14, 15, 16, 29, 31, 65_535] {
+            let (mut one, mut out) = (Vec::new(), Vec::new());
+            Trial { piece, ..trial.clone() }.write(&mut one).unwrap();
+            assert_eq!(apply_recipes(&one, &mut out).unwrap(), None);
+            let line = String::from_utf8(out).unwrap();
+            lines.push(line.split(" flash ").nth(1).unwrap().to_string());
+        }
+        assert!(lines.iter().all(|line| *line == lines[0]));
+    }
+}
+
+/// The first recipes in pieces are the longest one, in pieces of the four lengths.
+#[test]
+fn longest_recipe_in_pieces() {
+    let mut stream = Vec::new();
+    recipes_in_pieces(1, 5, &mut stream).unwrap();
+    let trials = read(&stream);
+    for (trial, piece) in trials.iter().zip(LONG_PIECES) {
+        assert_eq!(*trial, Trial { piece, ..trials[0].clone() });
+    }
+    assert_eq!(translate(&trials[0].recipe, &mut vec![0; trials[0].output]), Ok(36_829));
+    assert!(trials[0].uart && trials[4].recipe.len() < trials[0].recipe.len());
 }

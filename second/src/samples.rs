@@ -469,11 +469,13 @@ fn headers_read_back() {
         step: 5,
         more: 6,
         begin,
+        piece: 0x1234,
         output: 70_000,
         recipe: vec![7; 65],
     };
     let mut stream = Vec::new();
     trial.write(&mut stream).unwrap();
     assert_eq!(stream.len(), 3 * RECORD);
+    assert_eq!(stream[38..41], [0x12, 0x34, 0]);
     assert_eq!(read(&stream), [trial]);
 }
