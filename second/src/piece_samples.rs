@@ -3,7 +3,7 @@
 use crate::apply_recipes::apply_recipes;
 use crate::event::*;
 use crate::frames::{self, START};
-use crate::memory::{Lent, BOOTFL, EEPROM_CELLS, FLASH_CELLS, GROUP, MODULE};
+use crate::memory::*;
 use crate::node::*;
 use crate::node_record;
 use crate::numbers::*;
@@ -44,6 +44,20 @@ fn empty_pieces() {
     assert_eq!(piece(&mut open, ""), (PIN_CAN_ONLY, 0, vec![]));
     open.apply(&Event::Lend { flash: 65_536, eeprom: 1_023 });
     assert_eq!(piece(&mut open, ""), (MEMORY_LENGTH, 0, vec![]));
+}
+
+/// An empty piece tidies the record, of an open node and of any other.
+#[test]
+fn empty_pieces_tidy() {
+    for (pin, number) in [(Pin::CanAndUart, INCOMPLETE), (Pin::CanOnly, PIN_CAN_ONLY)] {
+        let mut session = session(0xFF, 1);
+        let address = Address::Flash(0x00_FFC8);
+        session.node.mode = Mode::Programming(Some(Staged { command: Command::Erase, address }));
+        (session.node.pin, session.node.held_count, session.node.held) = (pin, 2, [0xAA; 15]);
+        assert_eq!(piece(&mut session, ""), (number, 0, vec![]));
+        assert_eq!(session.node.mode, Mode::Programming(None));
+        assert_eq!((session.node.held_count, session.node.held[2..].iter().sum::<u8>()), (2, 0));
+    }
 }
 
 /// 1, 2 and 3 take no byte of a whole frame, and the record comes back tidied.
