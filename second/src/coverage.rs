@@ -295,7 +295,8 @@ impl Table {
         }
     }
 
-    /// Does an event, of UART pieces the first call, and counts its rows; gives the calls behind it.
+    /// Does an event, of UART pieces the first call, and counts its rows; gives the calls behind
+    /// it.
     fn take(&mut self, event: &Event) -> Option<Event> {
         let before = self.session.node.clone();
         if let Event::Begin { step, .. } = event {

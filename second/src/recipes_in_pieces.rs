@@ -45,7 +45,7 @@ fn piece_length(random: &mut Random) -> u16 {
 fn short(random: &mut Random) -> Trial {
     let any = random.bytes();
     let numbers = random.pick(&[[0x00, 0x00], [0xFF, 0xFF], [0x05, 0x0A], any, any]);
-    // By its number a recipe of the other streams is legal, or damaged in one of the ways there are.
+    // By its index a recipe of the other streams is legal, or damaged in one of the known ways.
     let index = if random.below(6) == 0 { 5 + random.below(10) } else { random.below(5) };
     let recipe = items_of(random, SPECIAL.next_multiple_of(15) + index, numbers).concat();
     let needed = 12 * translate(&recipe, &mut vec![0; MOST_OUTPUT]).unwrap_or(random.below(60));

@@ -59,8 +59,8 @@ pub fn generate(
 }
 
 impl<W: Write> Writer<'_, W> {
-    /// Writes an event and does it. Where UART bytes come in pieces, a byte goes into the ring, which
-    /// is handed over before another event.
+    /// Writes an event and does it. Where UART bytes come in pieces, a byte goes into the ring, and
+    /// that is handed over before another event.
     fn emit(&mut self, event: Event) {
         match event {
             Event::UartByte(byte) if self.in_pieces => return self.put_in_ring(byte),

@@ -63,8 +63,8 @@ impl<W: Write> Writer<'_, W> {
         (taken, answers.last().map_or(INCOMPLETE, |answer| answer.number))
     }
 
-    /// The lengths of some calls for so many bytes: all at once, byte by byte, at the rims of a frame,
-    /// a frame with some bytes and then these alone, or any, also none.
+    /// The lengths of some calls for so many bytes: all at once, byte by byte, at the rims of a
+    /// frame, a frame with some bytes and then these alone, or any, also none.
     fn lengths(&mut self, count: usize) -> Vec<u8> {
         let calls = 1 + self.random.below(3);
         let some = 1 + self.random.below(20) as u8;
