@@ -1,4 +1,4 @@
-//! Applies recipes to a node, frame by frame, and compares with the plain reading.
+//! Applies recipes to a node, by frames, bytes or pieces, and compares with the plain reading.
 
 use crate::digest::Digest;
 use crate::frames::{self, FRAME, WRAPPED};
@@ -22,12 +22,15 @@ fn memories(trial: &Trial) -> (Vec<u8>, Vec<u8>) {
     (flash, eeprom)
 }
 
-/// Takes an answer into the digest: number, count of replies, two replies of one width.
-fn take(digest: &mut Digest, outcome: &Outcome, width: usize) {
-    let mut bytes = vec![outcome.number, outcome.replies.len() as u8];
-    bytes.extend(outcome.replies.iter().flatten());
-    bytes.resize(2 + 2 * width, 0);
-    digest.add(&bytes);
+/// Takes an answer into the digest: number, what stands behind it, count of replies, two replies of
+/// one width.
+fn take(digest: &mut Digest, outcome: &Outcome, behind: &[u8], width: usize) {
+    let mut replies = outcome.replies.concat();
+    replies.resize(2 * width, 0);
+    digest.add(&[outcome.number]);
+    digest.add(behind);
+    digest.add(&[outcome.replies.len() as u8]);
+    digest.add(&replies);
 }
 
 /// The node before the first frame: restarted, and with what the header puts into its record.
@@ -36,6 +39,55 @@ fn begun(trial: &Trial, lent: &Lent) -> Node {
     node.restart(lent, trial.begin.pin(), true);
     trial.begin.put(&mut node);
     node
+}
+
+/// Hands the node its frames on CAN; gives the digest of the answers.
+fn by_frames(node: &mut Node, lent: &mut Lent, output: &[u8]) -> Digest {
+    let mut answers = Digest::default();
+    for frame in output.chunks_exact(FRAME) {
+        take(&mut answers, &node.can_frame(lent, frame), &[], FRAME);
+    }
+    answers
+}
+
+/// Hands the node bytes on UART one by one; gives the digest of the answers.
+fn by_bytes(node: &mut Node, lent: &mut Lent, bytes: &[u8]) -> Digest {
+    let mut answers = Digest::default();
+    for byte in bytes {
+        take(&mut answers, &node.uart_byte(lent, *byte), &[], WRAPPED);
+    }
+    answers
+}
+
+/// Hands the node bytes on UART in pieces of one length, leftovers again with more behind them,
+/// until none is left or it takes none; gives the digest of the answers.
+fn by_pieces(node: &mut Node, lent: &mut Lent, bytes: &[u8], length: usize) -> Digest {
+    let mut answers = Digest::default();
+    let mut left = bytes;
+    while !left.is_empty() {
+        let (taken, outcome) = node.uart_piece(lent, &left[..length.min(left.len())]);
+        take(&mut answers, &outcome, &(taken as u16).to_be_bytes(), WRAPPED);
+        if taken == 0 {
+            break;
+        }
+        left = &left[taken..];
+    }
+    answers
+}
+
+/// The bytes of all frames on UART, one behind the other.
+fn all_wrapped(output: &[u8]) -> Vec<u8> {
+    let frames = output.chunks_exact(FRAME);
+    frames.flat_map(|frame| frames::wrapped(frame.try_into().expect("12 bytes"))).collect()
+}
+
+/// Delivers the frames as the header says; gives the digest of the answers.
+fn deliver(trial: &Trial, node: &mut Node, lent: &mut Lent, output: &[u8]) -> Digest {
+    match (trial.uart, trial.piece) {
+        (false, _) => by_frames(node, lent, output),
+        (true, 0) => by_bytes(node, lent, &all_wrapped(output)),
+        (true, length) => by_pieces(node, lent, &all_wrapped(output), length as usize),
+    }
 }
 
 /// Compares what the node did with the plain reading; gives what is wrong. A node that doesn't
@@ -70,6 +122,28 @@ fn compare(
     }
 }
 
+/// Compares what the node did in pieces with the same bytes one by one, which end in the same node
+/// and memories; gives what is wrong.
+fn compare_with_bytes(
+    trial: &Trial,
+    before: &Node,
+    node: &Node,
+    [flash, eeprom]: [&[u8]; 2],
+    output: &[u8],
+) -> Option<String> {
+    if !trial.uart || trial.piece == 0 {
+        return None;
+    }
+    let (mut plain_flash, mut plain_eeprom) = memories(trial);
+    let mut plain = before.clone();
+    let mut lent = Lent { flash: &mut plain_flash, eeprom: &mut plain_eeprom };
+    for byte in all_wrapped(output) {
+        plain.uart_byte(&mut lent, byte);
+    }
+    let same = plain == *node && plain_flash == flash && plain_eeprom == eeprom;
+    (!same).then(|| "pieces end otherwise than bytes one by one".to_string())
+}
+
 /// Applies one recipe; gives its line without the number in front, and what is wrong.
 fn apply(trial: &Trial) -> (String, Option<String>) {
     let mut output = vec![0xEE; trial.output];
@@ -89,16 +163,7 @@ fn apply(trial: &Trial) -> (String, Option<String>) {
     let mut lent = Lent { flash: &mut flash, eeprom: &mut eeprom };
     let before = begun(trial, &lent);
     let mut node = before.clone();
-    let mut answers = Digest::default();
-    for frame in output[..FRAME * count].chunks_exact(FRAME) {
-        if trial.uart {
-            for byte in frames::wrapped(frame.try_into().expect("12 bytes")) {
-                take(&mut answers, &node.uart_byte(&mut lent, byte), WRAPPED);
-            }
-        } else {
-            take(&mut answers, &node.can_frame(&mut lent, frame), FRAME);
-        }
-    }
+    let answers = deliver(trial, &mut node, &mut lent, &output[..FRAME * count]);
     let line = format!(
         "number 0 place {count} frames {} answers {} flash {} eeprom {} node {}",
         Digest::of(&output),
@@ -107,7 +172,10 @@ fn apply(trial: &Trial) -> (String, Option<String>) {
         Digest::of(&eeprom),
         Digest::of(&node_record::write(&node)),
     );
-    (line, compare(trial, &before, &node, &flash, &eeprom))
+    let wrong = compare(trial, &before, &node, &flash, &eeprom);
+    let frames = &output[..FRAME * count];
+    let memories = [&flash[..], &eeprom[..]];
+    (line, wrong.or_else(|| compare_with_bytes(trial, &before, &node, memories, frames)))
 }
 
 /// Applies all recipes of a stream and prints a line for each; gives the first thing that

@@ -6,7 +6,8 @@ use crate::frames::{self, Frame, FRAME};
 use crate::memory::*;
 use crate::node::{Mode, Node, Staged, HELD};
 use crate::numbers::*;
-use crate::session::Session;
+use crate::piece_coverage::{Met, Pieces};
+use crate::session::{Answer, Session};
 use crate::uart_coverage::Run;
 use std::collections::HashMap;
 use std::io::{self, Write};
@@ -16,6 +17,7 @@ fn call(event: &Event) -> Option<&'static str> {
     match event {
         Event::CanFrame(_) => Some("CAN"),
         Event::UartByte(_) => Some("UART"),
+        Event::UartPieces { .. } => Some("piece"),
         Event::Restart { .. } => Some("restart"),
         Event::Show(_) => Some("show"),
         _ => None,
@@ -162,9 +164,10 @@ fn odd_length_rows(bytes: &[u8]) -> Vec<String> {
     rows
 }
 
-/// The rows of a frame or UART byte that the node met in this record; the session is the one
-/// after it.
-fn port_rows(before: &Node, session: &Session, event: &Event, number: u8) -> Vec<String> {
+/// The rows of a frame, a UART byte or a piece that the node met in this record; the session is the
+/// one after it.
+fn port_rows(before: &Node, session: &Session, event: &Event, answer: &Answer) -> Vec<String> {
+    let number = answer.number;
     let tidied = before.tidied();
     let untidy = tidied.mode != before.mode;
     let mut rows = vec![format!("outcome {number}")];
@@ -197,9 +200,14 @@ fn port_rows(before: &Node, session: &Session, event: &Event, number: u8) -> Vec
                 }
             }
         },
-        _ => {}
+        _ => {
+            let met = Met::of(before, session, event, answer);
+            if let Some(frame) = met.and_then(|met| met.frame()) {
+                rows.extend(frame_rows(&tidied, untidy, session, &frame, number));
+            }
+        }
     }
-    let port = if matches!(event, Event::CanFrame(_)) { "CAN" } else { "UART" };
+    let port = call(event).expect("a call of a port");
     rows.iter().map(|row| format!("{port} {row}")).collect()
 }
 
@@ -237,10 +245,11 @@ fn restart_rows(session: &Session) -> Vec<String> {
 }
 
 /// The rows that one answered event reaches; the session is the one after it.
-fn rows(before: &Node, session: &Session, event: &Event, number: u8) -> Vec<String> {
+fn rows(before: &Node, session: &Session, event: &Event, answer: &Answer) -> Vec<String> {
+    let number = answer.number;
     let row = match event {
-        Event::CanFrame(_) | Event::UartByte(_) => {
-            return port_rows(before, session, event, number)
+        Event::CanFrame(_) | Event::UartByte(_) | Event::UartPieces { .. } => {
+            return port_rows(before, session, event, answer)
         }
         Event::Restart { .. } if number == DONE => return restart_rows(session),
         Event::Restart { .. } => format!("restart {number}"),
@@ -263,37 +272,74 @@ fn rows(before: &Node, session: &Session, event: &Event, number: u8) -> Vec<Stri
     vec![row]
 }
 
-/// Prints the table of counts; gives the rows that were never reached.
-pub fn coverage(stream: &[u8], out: &mut impl Write) -> io::Result<Vec<String>> {
-    let mut counts: HashMap<String, u64> = HashMap::new();
-    let mut session = Session::new();
-    let mut run = Run::new();
-    let mut answered = 0;
-    for event in records(stream).filter_map(Event::read) {
-        let before = session.node.clone();
-        if let Event::Begin { step, .. } = event {
-            run = Run::new();
-            if step != 0 {
-                *counts.entry("begin with mixed memories".to_string()).or_default() += 1;
-            }
-        }
-        let Some(answer) = session.apply(&event) else {
-            run.break_off();
-            continue;
-        };
-        answered += 1;
-        let mut reached = rows(&before, &session, &event, answer.number);
-        reached.extend(call_rows(&before, &session, &event, answer.number));
-        let runs = run.take(&before, &event, answer.number);
-        reached.extend(runs.iter().map(|row| format!("UART {row}")));
-        for row in reached {
-            *counts.entry(row).or_default() += 1;
+/// How often each row was reached, and what the events so far have come to.
+struct Table {
+    counts: HashMap<String, u64>,
+    session: Session,
+    run: Run,
+    pieces: Pieces,
+    answered: u64,
+}
+
+impl Table {
+    /// The table before any event.
+    fn new() -> Table {
+        let (session, run) = (Session::new(), Run::new());
+        Table { counts: HashMap::new(), session, run, pieces: Pieces::default(), answered: 0 }
+    }
+
+    /// Counts some rows.
+    fn count(&mut self, rows: Vec<String>) {
+        for row in rows {
+            *self.counts.entry(row).or_default() += 1;
         }
     }
-    writeln!(out, "{answered:>9} events with an answer in {} sessions", session.number)?;
+
+    /// Does an event, of UART pieces the first call, and counts its rows; gives the calls behind
+    /// it.
+    fn take(&mut self, event: &Event) -> Option<Event> {
+        let before = self.session.node.clone();
+        if let Event::Begin { step, .. } = event {
+            self.run = Run::new();
+            if *step != 0 {
+                self.count(vec!["begin with mixed memories".to_string()]);
+            }
+        }
+        let Some(answer) = self.session.apply(event) else {
+            self.run.break_off();
+            self.pieces = Pieces::default();
+            return None;
+        };
+        self.answered += 1;
+        let mut reached = rows(&before, &self.session, event, &answer);
+        reached.extend(call_rows(&before, &self.session, event, answer.number));
+        let runs = self.run.take(&before, event, answer.number);
+        reached.extend(runs.iter().map(|row| format!("UART {row}")));
+        match Met::of(&before, &self.session, event, &answer) {
+            Some(met) => {
+                reached.extend(self.pieces.take(&met).iter().map(|row| format!("piece {row}")))
+            }
+            None => self.pieces = Pieces::default(),
+        }
+        self.count(reached);
+        answer.left
+    }
+}
+
+/// Prints the table of counts; gives the rows that were never reached.
+pub fn coverage(stream: &[u8], out: &mut impl Write) -> io::Result<Vec<String>> {
+    let mut table = Table::new();
+    for record in records(stream) {
+        let mut next = Event::read(record);
+        while let Some(event) = next {
+            next = table.take(&event);
+        }
+    }
+    let (answered, sessions) = (table.answered, table.session.number);
+    writeln!(out, "{answered:>9} events with an answer in {sessions} sessions")?;
     let mut missing = Vec::new();
     for row in wanted() {
-        let count = counts.get(&row).copied().unwrap_or(0);
+        let count = table.counts.get(&row).copied().unwrap_or(0);
         writeln!(out, "{count:>9} {row}")?;
         if count == 0 {
             missing.push(row);

@@ -1,13 +1,14 @@
 //! The rows that a session stream ought to reach.
 
 use crate::numbers::*;
+use crate::piece_coverage::PIECE_ROWS;
 use crate::uart_coverage::RUN_ROWS;
 
 /// The rims of the legal rows and blocks.
 pub const RIMS: [u32; 9] =
     [0x000FF8, 0x001000, 0x00FFF8, 0x00FFC0, 0x00FFC8, 0x010000, 0xF00000, 0xF003F8, 0xF00400];
 
-/// Rows that both ports ought to reach: refusals told apart, then what is done.
+/// Rows that both ports ought to reach, UART in pieces too: refusals told apart, then what is done.
 const PORT_ROWS: [&str; 43] = [
     "3 error",
     "3 waiting",
@@ -99,7 +100,7 @@ const OTHER_ROWS: [&str; 40] = [
 ];
 
 /// The calls that ask for the lengths of the memories, and what lengths may be.
-const LENGTH_CALLS: [&str; 4] = ["CAN", "UART", "restart", "show"];
+const LENGTH_CALLS: [&str; 5] = ["CAN", "UART", "piece", "restart", "show"];
 const LENGTH_ROWS: [&str; 7] = [
     "no FLASH",
     "no EEPROM",
@@ -111,7 +112,7 @@ const LENGTH_ROWS: [&str; 7] = [
 ];
 
 /// The calls that tidy a record, and how it may be untidy.
-const RECORD_CALLS: [&str; 3] = ["CAN", "UART", "restart"];
+const RECORD_CALLS: [&str; 4] = ["CAN", "UART", "piece", "restart"];
 pub const RECORD_ROWS: [&str; 2] =
     ["after a count above 255 whose low byte would do", "after a fifteenth held byte not 0x00"];
 
@@ -119,15 +120,16 @@ pub const RECORD_ROWS: [&str; 2] =
 /// 2, 10 and 11.
 pub fn wanted() -> Vec<String> {
     let mut rows = Vec::new();
-    for port in ["CAN", "UART"] {
+    for port in ["CAN", "UART", "piece"] {
         let uart_alone = [PIN_CAN_ONLY, INCOMPLETE, BAD_WRAPPING];
-        let numbers = (0..=11).filter(|number| port == "UART" || !uart_alone.contains(number));
+        let numbers = (0..=11).filter(|number| port != "CAN" || !uart_alone.contains(number));
         rows.extend(numbers.map(|number| format!("{port} outcome {number}")));
         rows.extend(PORT_ROWS.iter().map(|row| format!("{port} {row}")));
         rows.extend(RIMS.iter().map(|rim| format!("{port} 0x030 at the rim 0x{rim:06X}")));
     }
     rows.extend(OTHER_ROWS.iter().map(|row| row.to_string()));
     rows.extend(RUN_ROWS.iter().map(|row| format!("UART {row}")));
+    rows.extend(PIECE_ROWS.iter().map(|row| format!("piece {row}")));
     for call in LENGTH_CALLS {
         rows.extend(LENGTH_ROWS.iter().map(|row| format!("{call} 1 {row}")));
     }

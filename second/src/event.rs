@@ -9,9 +9,16 @@ pub const LONGEST: usize = 20;
 pub const LONGEST_CAN: usize = 1_024;
 pub const CAN_IN_RECORD: usize = RECORD - 3;
 pub const CAN_BEHIND: u8 = 0x55;
+/// The kind of UART pieces, the most bytes in the ring, the most calls, and where both begin.
+pub const PIECES: u8 = 0x11;
+pub const LONGEST_RING: usize = 44;
+pub const MOST_CALLS: usize = 16;
+const LENGTHS_AT: usize = 3;
+const RING_AT: usize = LENGTHS_AT + MOST_CALLS;
 
 pub type Record = [u8; RECORD];
 
+/// An event; that of UART pieces has what the ring holds, and the length of each call's piece.
 #[derive(Clone, PartialEq, Eq, Debug)]
 pub enum Event {
     Restart { pin: u8, self_test: u8 },
@@ -28,6 +35,7 @@ pub enum Event {
     Wrap { input: Vec<u8>, output: usize },
     Unwrap { input: Vec<u8>, output: usize },
     AddressRule { address: u32, command: u32 },
+    UartPieces { ring: Vec<u8>, lengths: Vec<u8> },
 }
 
 /// A number of four bytes, high byte first.
@@ -77,8 +85,36 @@ impl Event {
             0x0C => Event::Wrap { input: from(3, b[1]), output: length(b[2]) },
             0x0D => Event::Unwrap { input: from(3, b[1]), output: length(b[2]) },
             0x0E => Event::AddressRule { address: number(&b[1..]), command: number(&b[5..]) },
+            PIECES => {
+                let ring = b[RING_AT..][..LONGEST_RING.min(b[1] as usize)].to_vec();
+                let lengths = b[LENGTHS_AT..][..MOST_CALLS.min(b[2] as usize)].to_vec();
+                Event::UartPieces { ring, lengths }
+            }
             _ => return None,
         })
+    }
+
+    /// The piece that the first call of UART pieces is handed: so many bytes of the ring, all where
+    /// there are fewer.
+    pub fn piece(&self) -> Option<&[u8]> {
+        match self {
+            Event::UartPieces { ring, lengths } => {
+                let length = *lengths.first()? as usize;
+                Some(&ring[..length.min(ring.len())])
+            }
+            _ => None,
+        }
+    }
+
+    /// The calls behind the first one of UART pieces, which took so many bytes of the ring.
+    pub fn calls_left(&self, taken: usize) -> Option<Event> {
+        match self {
+            Event::UartPieces { ring, lengths } if lengths.len() > 1 => Some(Event::UartPieces {
+                ring: ring[taken..].to_vec(),
+                lengths: lengths[1..].to_vec(),
+            }),
+            _ => None,
+        }
     }
 
     /// The record's kind.
@@ -98,6 +134,7 @@ impl Event {
             Event::Wrap { .. } => 0x0C,
             Event::Unwrap { .. } => 0x0D,
             Event::AddressRule { .. } => 0x0E,
+            Event::UartPieces { .. } => PIECES,
         }
     }
 
@@ -142,6 +179,12 @@ impl Event {
             Event::AddressRule { address, command } => {
                 bytes.extend(address.to_be_bytes());
                 bytes.extend(command.to_be_bytes());
+            }
+            Event::UartPieces { ring, lengths } => {
+                bytes.extend([ring.len() as u8, lengths.len() as u8]);
+                bytes.extend(lengths);
+                bytes.resize(RING_AT, 0);
+                bytes.extend(ring);
             }
         }
         let mut record = [0; RECORD];

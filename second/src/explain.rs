@@ -1,11 +1,11 @@
 //! Tells one event of a session stream in words.
 
-use crate::event::{records, Event};
+use crate::event::{records, Event, PIECES};
 use crate::frames::{self, Frame};
 use crate::node::{Node, HELD};
 use crate::node_record::NODE;
 use crate::numbers::words;
-use crate::session::{hex, Session};
+use crate::session::{hex, Answer, Session};
 
 /// Bytes as upper-case hex pairs.
 fn pairs(bytes: &[u8]) -> String {
@@ -39,6 +39,37 @@ fn frame_words(frame: &Frame) -> String {
     )
 }
 
+/// A UART byte in words, met by this node.
+fn byte_words(byte: u8, before: &Node) -> String {
+    let tidied = before.tidied();
+    let mut text = format!("UART byte {byte:02X} behind {} held", tidied.held_count);
+    if tidied.held_count as usize == HELD {
+        let frame = tidied.held[1..HELD - 1].try_into().expect("12 bytes");
+        text += &format!(" ({})", frame_words(&frame));
+    }
+    text
+}
+
+/// The first call of UART pieces in words, met by this node: the piece, and the frames that it and
+/// the held bytes have, right or wrong.
+fn piece_words(piece: &[u8], ring: &[u8], before: &Node) -> String {
+    let tidied = before.tidied();
+    let mut text = format!(
+        "UART piece of {} bytes [{}] of a ring of {}, behind {} held",
+        piece.len(),
+        pairs(piece),
+        ring.len(),
+        tidied.held_count,
+    );
+    let (mut held, mut rest) = (tidied.held_bytes(), piece);
+    while let Some((count, all)) = frames::first_fifteen(held, rest) {
+        let frame = all[1..HELD - 1].try_into().expect("12 bytes");
+        text += &format!(" (fifteen bytes: {})", frame_words(&frame));
+        (held, rest) = (&[], &rest[count..]);
+    }
+    text
+}
+
 /// An event in words, met by this node.
 fn event_words(event: &Event, before: &Node) -> String {
     match event {
@@ -52,15 +83,8 @@ fn event_words(event: &Event, before: &Node) -> String {
             };
             format!("CAN frame of {} bytes: {} ({meaning})", bytes.len(), pairs(bytes))
         }
-        Event::UartByte(byte) => {
-            let tidied = before.tidied();
-            let mut text = format!("UART byte {byte:02X} behind {} held", tidied.held_count);
-            if tidied.held_count as usize == HELD {
-                let frame = tidied.held[1..HELD - 1].try_into().expect("12 bytes");
-                text += &format!(" ({})", frame_words(&frame));
-            }
-            text
-        }
+        Event::UartByte(byte) => byte_words(*byte, before),
+        Event::UartPieces { ring, .. } => piece_words(event.piece().unwrap_or(&[]), ring, before),
         Event::Show(address) => format!("show the row at 0x{address:06X}"),
         Event::IdentifierToFrame { identifier, data, output } => format!(
             "identifier 0x{identifier:08X} and {} data bytes [{}] to a frame, output of {output}",
@@ -87,7 +111,7 @@ fn event_words(event: &Event, before: &Node) -> String {
 
 /// What the answer bytes behind the number mean.
 fn answer_words(event: &Event, bytes: &[u8]) -> Vec<String> {
-    let replies = |width: usize| {
+    let replies = |bytes: &[u8], width: usize| {
         let mut lines = vec![format!("replies {}", bytes[0])];
         for reply in bytes[1..].chunks_exact(width).take(bytes[0] as usize) {
             lines.push(format!("reply {}", pairs(reply)));
@@ -95,8 +119,13 @@ fn answer_words(event: &Event, bytes: &[u8]) -> Vec<String> {
         lines
     };
     match event {
-        Event::CanFrame(_) => replies(12),
-        Event::UartByte(_) => replies(15),
+        Event::CanFrame(_) => replies(bytes, 12),
+        Event::UartByte(_) => replies(bytes, 15),
+        Event::UartPieces { .. } => {
+            let mut lines = vec![format!("bytes taken {}", bytes[0])];
+            lines.extend(replies(&bytes[1..], 15));
+            lines
+        }
         Event::Restart { .. } => vec![],
         Event::Show(_) => vec![format!("part of {} cells [{}]", bytes[0], pairs(&bytes[1..]))],
         Event::FrameToIdentifier { .. } => {
@@ -113,38 +142,42 @@ fn answer_words(event: &Event, bytes: &[u8]) -> Vec<String> {
 pub fn explain(stream: &[u8], wanted: u64) -> Option<String> {
     let mut session = Session::new();
     let mut count = 0;
-    for (index, event) in
-        records(stream).enumerate().filter_map(|(i, r)| Some((i, Event::read(r)?)))
-    {
-        let before = session.node.clone();
-        let Some(answer) = session.apply(&event) else { continue };
-        count += 1;
-        if count < wanted {
-            continue;
+    for (index, record) in records(stream).enumerate() {
+        let mut next = Event::read(record);
+        while let Some(event) = next.take() {
+            let before = session.node.clone();
+            let Some(answer) = session.apply(&event) else { continue };
+            count += 1;
+            if count >= wanted {
+                let head = format!("event {count}: session {}", session.number);
+                let place = format!("record {} of the stream", index + 1);
+                let head = format!("{head}, its event {}, {place}", session.events);
+                return Some(format!("{head}, {}", told(&session, &before, &event, &answer)));
+            }
+            next = answer.left;
         }
-        let bytes = &answer.line[1..];
-        let mut lines = vec![
-            format!(
-                "event {count}: session {}, its event {}, record {} of the stream, kind 0x{:02X}",
-                session.number,
-                session.events,
-                index + 1,
-                event.kind(),
-            ),
-            format!("what: {}", event_words(&event, &before)),
-            format!("lent: FLASH {}, EEPROM {}", session.lent_flash, session.lent_eeprom),
-            format!("node before: {}", node_words(&before)),
-            format!("number {}: {}", answer.number, words(answer.number)),
-        ];
-        lines.extend(answer_words(&event, &bytes[1..]));
-        if event.kind() <= 0x03 {
-            lines.push(format!("node after: {}", node_words(&session.node)));
-            let (record, fifteenth) = bytes[bytes.len() - NODE - 1..].split_at(NODE);
-            lines.push(format!("NODE: {}", pairs(record)));
-            lines.push(format!("fifteenth held byte: {}", pairs(fifteenth)));
-        }
-        lines.push(format!("line: {}", hex(&answer.line)));
-        return Some(lines.join("\n"));
     }
     None
+}
+
+/// An answered event in words: its kind, what was done, and the answer; the session is the one
+/// after it.
+fn told(session: &Session, before: &Node, event: &Event, answer: &Answer) -> String {
+    let bytes = &answer.line[1..];
+    let mut lines = vec![
+        format!("kind 0x{:02X}", event.kind()),
+        format!("what: {}", event_words(event, before)),
+        format!("lent: FLASH {}, EEPROM {}", session.lent_flash, session.lent_eeprom),
+        format!("node before: {}", node_words(before)),
+        format!("number {}: {}", answer.number, words(answer.number)),
+    ];
+    lines.extend(answer_words(event, &bytes[1..]));
+    if event.kind() <= 0x03 || event.kind() == PIECES {
+        lines.push(format!("node after: {}", node_words(&session.node)));
+        let (record, fifteenth) = bytes[bytes.len() - NODE - 1..].split_at(NODE);
+        lines.push(format!("NODE: {}", pairs(record)));
+        lines.push(format!("fifteenth held byte: {}", pairs(fifteenth)));
+    }
+    lines.push(format!("line: {}", hex(&answer.line)));
+    lines.join("\n")
 }

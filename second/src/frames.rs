@@ -104,3 +104,18 @@ pub fn wrapped(frame: &Frame) -> [u8; WRAPPED] {
     wrap(frame, &mut bytes);
     bytes
 }
+
+/// Where a receiver that held some bytes has fifteen behind these: how many of these it took, and
+/// the fifteen. It skips bytes until 0xAA, then collects.
+pub fn first_fifteen(held: &[u8], bytes: &[u8]) -> Option<(usize, [u8; WRAPPED])> {
+    let mut all = held.to_vec();
+    for (index, &byte) in bytes.iter().enumerate() {
+        if !all.is_empty() || byte == START {
+            all.push(byte);
+        }
+        if let Ok(fifteen) = all[..].try_into() {
+            return Some((index + 1, fifteen));
+        }
+    }
+    None
+}

@@ -14,12 +14,16 @@ mod memory;
 mod node;
 mod node_record;
 mod numbers;
+mod piece_coverage;
+#[cfg(test)]
+mod piece_samples;
 mod random;
 mod recipe;
 mod recipe_coverage;
 mod recipe_files;
 mod recipe_stream;
 mod recipes;
+mod recipes_in_pieces;
 #[cfg(test)]
 mod samples;
 mod session;
@@ -29,10 +33,12 @@ use std::io::{self, BufWriter, Read, Write};
 use std::process::ExitCode;
 
 const USAGE: &str = "second generate SEED SESSIONS EVENTS FULL > stream
+second pieces SEED SESSIONS EVENTS FULL > stream
 second answer < stream
 second coverage < stream
 second explain N < stream
 second recipes SEED COUNT > stream
+second recipes-in-pieces SEED COUNT > stream
 second apply-recipes < stream
 second recipe-coverage < stream
 second apply FILE
@@ -57,10 +63,11 @@ fn run(arguments: &[&str], out: &mut impl Write) -> io::Result<Option<String>> {
         text.parse().map_err(|_| wrong())
     };
     match arguments {
-        ["generate", seed, sessions, events, full] => {
+        [command @ ("generate" | "pieces"), seed, sessions, events, full] => {
             let full = number(full)?.min(65_535) as u16;
             let (sessions, events) = (number(sessions)? as u32, number(events)?);
-            generate::generate(number(seed)?, sessions, events, full, out)?;
+            let in_pieces = *command == "pieces";
+            generate::generate(in_pieces, number(seed)?, sessions, events, full, out)?;
             Ok(None)
         }
         ["answer"] => session::answer_stream(&input()?, out).map(|_| None),
@@ -71,6 +78,10 @@ fn run(arguments: &[&str], out: &mut impl Write) -> io::Result<Option<String>> {
         },
         ["recipes", seed, count] => {
             recipes::recipes(number(seed)?, number(count)? as usize, out).map(|_| None)
+        }
+        ["recipes-in-pieces", seed, count] => {
+            let (seed, count) = (number(seed)?, number(count)? as usize);
+            recipes_in_pieces::recipes_in_pieces(seed, count, out).map(|_| None)
         }
         ["apply-recipes"] => apply_recipes::apply_recipes(&input()?, out),
         ["apply", file] => {

@@ -1,4 +1,4 @@
-//! The node: its record, restart, and what it does with frames and UART bytes.
+//! The node: its record, restart, and what it does with frames, UART bytes and pieces of them.
 
 use crate::frames::{self, Frame, FRAME, START, WRAPPED};
 use crate::memory::*;
@@ -126,6 +126,11 @@ impl Node {
         node
     }
 
+    /// The held bytes of a tidied record.
+    pub fn held_bytes(&self) -> &[u8] {
+        &self.held[..self.held_count as usize]
+    }
+
     /// Drops the held bytes.
     fn empty_held(&mut self) {
         self.held_count = 0;
@@ -173,14 +178,8 @@ impl Node {
     /// Hands the node a UART byte.
     pub fn uart_byte(&mut self, lent: &mut Lent, byte: u8) -> Outcome {
         self.tidy();
-        if !lent.lengths_right() {
-            return refused(MEMORY_LENGTH);
-        }
-        if self.pin == Pin::CanOnly {
-            return refused(PIN_CAN_ONLY);
-        }
-        if self.deaf() {
-            return refused(DEAF);
+        if let Some(number) = self.uart_closed(lent) {
+            return refused(number);
         }
         let count = self.held_count as usize;
         if count < HELD {
@@ -204,6 +203,36 @@ impl Node {
                 let replies = replies.iter().map(|reply| frames::wrapped(reply).to_vec());
                 Outcome { number: DONE, replies: replies.collect() }
             }
+        }
+    }
+
+    /// Hands the node a piece of UART bytes, from no bytes up. It stops behind the byte that gives
+    /// an outcome other than 10, or at the end; gives the bytes taken, the outcome and its replies.
+    /// 1, 2 and 3 take no byte.
+    pub fn uart_piece(&mut self, lent: &mut Lent, piece: &[u8]) -> (usize, Outcome) {
+        self.tidy();
+        if let Some(number) = self.uart_closed(lent) {
+            return (0, refused(number));
+        }
+        for (index, &byte) in piece.iter().enumerate() {
+            let outcome = self.uart_byte(lent, byte);
+            if outcome.number != INCOMPLETE {
+                return (index + 1, outcome);
+            }
+        }
+        (piece.len(), refused(INCOMPLETE))
+    }
+
+    /// The number of a node that hears nothing on UART: 1, 2 or 3, in this order.
+    fn uart_closed(&self, lent: &Lent) -> Option<u8> {
+        if !lent.lengths_right() {
+            Some(MEMORY_LENGTH)
+        } else if self.pin == Pin::CanOnly {
+            Some(PIN_CAN_ONLY)
+        } else if self.deaf() {
+            Some(DEAF)
+        } else {
+            None
         }
     }
 

@@ -1,9 +1,9 @@
 //! Counts what the recipes of a stream come to.
 
-use crate::frames::START;
+use crate::frames::{START, WRAPPED};
 use crate::memory::Command;
 use crate::node::{Staged, HELD};
-use crate::recipe::{body_length, illegal, items, translate, LEAVE, MOST_ITEMS, OPEN};
+use crate::recipe::{body_length, illegal, items, translate, Refusal, LEAVE, MOST_ITEMS, OPEN};
 use crate::recipe_stream::{read, Trial};
 use std::collections::HashMap;
 use std::io::{self, Write};
@@ -59,6 +59,32 @@ const WANTED: [&str; 48] = [
     "25 before 23",
     "26 one byte short",
     "26 no output",
+];
+
+/// Every row that recipes in pieces ought to reach. Lengths are those of deliveries to a node that
+/// hears them, bears the recipe's numbers and holds no bytes.
+const WANTED_IN_PIECES: [&str; 21] = [
+    "accepted pieces, own numbers",
+    "accepted pieces, other numbers",
+    "accepted pieces, a read staged",
+    "accepted pieces, a write staged",
+    "accepted pieces, an erase staged",
+    "accepted pieces, an illegal command staged",
+    "accepted pieces, untidy bytes held",
+    "accepted pieces, bytes held",
+    "accepted pieces, bytes held before the first piece",
+    "accepted pieces, pin CAN only",
+    "accepted pieces of 1, 36829 frames",
+    "accepted pieces of 15, 36829 frames",
+    "accepted pieces of 64, 36829 frames",
+    "accepted pieces of 4096, 36829 frames",
+    "accepted pieces below 15",
+    "accepted pieces of 15",
+    "accepted pieces above 15, no multiple of it",
+    "accepted pieces above 15, a multiple of it",
+    "accepted pieces longer than all the bytes",
+    "pieces, a recipe refused",
+    "pieces, a recipe refused with 26",
 ];
 
 /// The rows of what an accepted recipe for the own numbers finds in the record and the memories.
@@ -139,6 +165,47 @@ fn accepted(trial: &Trial, count: usize) -> Vec<String> {
     rows
 }
 
+/// The rows of a recipe in pieces that gives so many frames.
+fn accepted_in_pieces(trial: &Trial, count: usize) -> Vec<String> {
+    let ours = trial.recipe[1..3] == [trial.module, trial.group];
+    let whose = if ours { "own" } else { "other" };
+    let mut rows = vec![format!("accepted pieces, {whose} numbers")];
+    rows.extend(begun(trial, "pieces").into_iter().filter(|row| row.contains("pieces")));
+    let begin = &trial.begin;
+    let tidy = (1..=HELD).contains(&(begin.held_count as usize)) && begin.held[0] == START;
+    if !ours || !begin.can_and_uart {
+        return rows;
+    }
+    if tidy {
+        rows.push("accepted pieces, bytes held before the first piece".to_string());
+        return rows;
+    }
+    let (length, all) = (trial.piece as usize, WRAPPED * count);
+    let more = length > WRAPPED && length <= all;
+    let found = [
+        ("below 15", length < WRAPPED),
+        ("of 15", length == WRAPPED),
+        ("above 15, no multiple of it", more && length % WRAPPED != 0),
+        ("above 15, a multiple of it", more && length % WRAPPED == 0),
+        ("longer than all the bytes", length > all),
+    ];
+    let found = found.iter().filter(|(_, holds)| *holds);
+    rows.extend(found.map(|(row, _)| format!("accepted pieces {row}")));
+    if count == 36_829 {
+        rows.push(format!("accepted pieces of {length}, 36829 frames"));
+    }
+    rows
+}
+
+/// The rows of a recipe in pieces.
+fn in_pieces(trial: &Trial, translated: Result<usize, Refusal>) -> Vec<String> {
+    match translated {
+        Ok(count) => accepted_in_pieces(trial, count),
+        Err(Refusal { number: 26, .. }) => vec!["pieces, a recipe refused with 26".to_string()],
+        Err(_) => vec!["pieces, a recipe refused".to_string()],
+    }
+}
+
 /// The row of a refused recipe.
 fn refused(trial: &Trial, number: u8, place: usize) -> Vec<String> {
     let recipe = &trial.recipe;
@@ -184,6 +251,7 @@ pub fn recipe_coverage(stream: &[u8], out: &mut impl Write) -> io::Result<Vec<St
     let trials = read(stream);
     for trial in &trials {
         let rows = match translate(&trial.recipe, &mut vec![0; trial.output]) {
+            translated if trial.uart && trial.piece > 0 => in_pieces(trial, translated),
             Ok(count) => accepted(trial, count),
             Err(refusal) => refused(trial, refusal.number, refusal.place),
         };
@@ -193,8 +261,8 @@ pub fn recipe_coverage(stream: &[u8], out: &mut impl Write) -> io::Result<Vec<St
     }
     writeln!(out, "{:>9} recipes", trials.len())?;
     let mut missing = Vec::new();
-    for row in WANTED {
-        let count = counts.get(row).copied().unwrap_or(0);
+    for row in WANTED.iter().chain(&WANTED_IN_PIECES) {
+        let count = counts.get(*row).copied().unwrap_or(0);
         writeln!(out, "{count:>9} {row}")?;
         if count == 0 {
             missing.push(row.to_string());

@@ -21,6 +21,8 @@ pub struct Trial {
     pub more: u8,
     /// What the record begins with.
     pub begin: Begin,
+    /// The length of a piece on UART, 0 for byte by byte.
+    pub piece: u16,
     /// The length of the lent frame output.
     pub output: usize,
     pub recipe: Vec<u8>,
@@ -92,6 +94,7 @@ impl Trial {
         bytes.extend((self.output as u32).to_be_bytes());
         bytes.extend([self.step, self.more]);
         bytes.extend(self.begin.write());
+        bytes.extend(self.piece.to_be_bytes());
         bytes.resize(RECORD, 0);
         bytes.extend(&self.recipe);
         bytes.resize(bytes.len().next_multiple_of(RECORD), 0);
@@ -118,6 +121,7 @@ pub fn read(stream: &[u8]) -> Vec<Trial> {
             step: header[14],
             more: header[15],
             begin: Begin::read(&header[16..]),
+            piece: u16::from_be_bytes([header[38], header[39]]),
             output: number(&header[10..]),
             recipe: behind[..length].to_vec(),
         });

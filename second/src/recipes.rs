@@ -9,9 +9,9 @@ use crate::recipe_stream::{Begin, Trial};
 use std::io::{self, Write};
 
 /// How many recipes at the head of a stream are special.
-const SPECIAL: usize = 6;
+pub const SPECIAL: usize = 6;
 /// Frame bytes of the largest recipe.
-const MOST_OUTPUT: usize = 36_829 * 12;
+pub const MOST_OUTPUT: usize = 36_829 * 12;
 const BAD_BLOCKS: [u32; 9] =
     [0x000FC0, 0x001008, 0x001020, 0x00FFC8, 0x00FFF8, 0x010000, 0xF00000, 0x000000, 0xFFFFC0];
 const BAD_ROWS: [u32; 9] =
@@ -201,7 +201,7 @@ fn many_rows(random: &mut Random, numbers: [u8; 2], rows: usize) -> Vec<Vec<u8>>
 }
 
 /// The recipe of most frames: Open, 2,046 Blocks over all of the legal FLASH, Leave.
-fn largest(random: &mut Random, numbers: [u8; 2]) -> Vec<Vec<u8>> {
+pub fn largest(random: &mut Random, numbers: [u8; 2]) -> Vec<Vec<u8>> {
     let mut items = vec![vec![OPEN, numbers[0], numbers[1]]];
     for index in 0..2_046 {
         let near = (index * 7 + random.below(3)) % 960;
@@ -243,7 +243,7 @@ fn special_items(random: &mut Random, index: usize, numbers: [u8; 2]) -> Vec<Vec
 }
 
 /// The items of the recipe with this index.
-fn items_of(random: &mut Random, index: usize, numbers: [u8; 2]) -> Vec<Vec<u8>> {
+pub fn items_of(random: &mut Random, index: usize, numbers: [u8; 2]) -> Vec<Vec<u8>> {
     if index < SPECIAL {
         return special_items(random, index, numbers);
     }
@@ -278,7 +278,7 @@ fn items_of(random: &mut Random, index: usize, numbers: [u8; 2]) -> Vec<Vec<u8>>
 }
 
 /// The length of the lent output for a recipe that gives so many bytes.
-fn output_length(random: &mut Random, needed: usize) -> usize {
+pub fn output_length(random: &mut Random, needed: usize) -> usize {
     let length = match random.below(20) {
         0..=7 => needed,
         8..=11 => needed + 1 + random.below(40),
@@ -311,7 +311,7 @@ fn staged(random: &mut Random, full: bool) -> Option<Staged> {
 
 /// What the record has when a delivery begins: mostly what a restart leaves, else something
 /// staged, bytes held, or pin CAN only; with `full` all of these.
-fn begin(random: &mut Random, numbers: [u8; 2], full: bool) -> Begin {
+pub fn begin(random: &mut Random, numbers: [u8; 2], full: bool) -> Begin {
     let frame = frames::frame(0x040, 0, numbers[0], numbers[1], random.bytes());
     let mut held = [0; HELD];
     let held_count = match random.below(10) {
@@ -356,6 +356,7 @@ pub fn recipes(seed: u64, count: usize, out: &mut impl Write) -> io::Result<()> 
             step: if pattern { 1 | random.any() } else { 0 },
             more: if pattern { random.any() } else { 0 },
             begin: begin(&mut random, [module, group], full),
+            piece: 0,
             output: if long { needed } else { output_length(&mut random, needed) },
             recipe,
         };

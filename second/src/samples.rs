@@ -1,6 +1,6 @@
 //! Document 01's samples, and some rules that are easily got wrong.
 
-use crate::event::{Event, CAN_BEHIND, CAN_IN_RECORD, LONGEST_CAN, RECORD};
+use crate::event::*;
 use crate::frames;
 use crate::memory::*;
 use crate::node::*;
@@ -12,7 +12,7 @@ use crate::session::{fill, Session};
 use crate::uart_coverage::{Run, RUN_ROWS};
 
 /// A session with blank memories, own numbers 05 0A, BOOTFL as given, restarted.
-fn session(bootfl: u8, pin: u8) -> Session {
+pub fn session(bootfl: u8, pin: u8) -> Session {
     let mut session = Session::new();
     let fixed = [1, 2, 3, 4, 5, 6];
     session.apply(&Event::Begin { flash: 0xFF, eeprom: 0xFF, fixed, full: 0, step: 0, more: 0 });
@@ -24,18 +24,18 @@ fn session(bootfl: u8, pin: u8) -> Session {
 }
 
 /// Bytes of hex pairs with blanks between.
-fn bytes(pairs: &str) -> Vec<u8> {
+pub fn bytes(pairs: &str) -> Vec<u8> {
     pairs.split_whitespace().map(|pair| u8::from_str_radix(pair, 16).unwrap()).collect()
 }
 
 /// A CAN frame's number and its first reply.
-fn can(session: &mut Session, frame: &str) -> (u8, Vec<u8>) {
+pub fn can(session: &mut Session, frame: &str) -> (u8, Vec<u8>) {
     let answer = session.apply(&Event::CanFrame(bytes(frame))).unwrap();
     (answer.number, answer.line[3..3 + 12 * answer.line[2] as usize].to_vec())
 }
 
 /// The numbers of some UART bytes, and the replies of the last.
-fn uart(session: &mut Session, all: &str) -> (Vec<u8>, Vec<u8>) {
+pub fn uart(session: &mut Session, all: &str) -> (Vec<u8>, Vec<u8>) {
     let mut numbers = Vec::new();
     let mut reply = Vec::new();
     for byte in bytes(all) {
@@ -46,8 +46,8 @@ fn uart(session: &mut Session, all: &str) -> (Vec<u8>, Vec<u8>) {
     (numbers, reply)
 }
 
-const PROGRAM: &str = "10 00 F0 F0 FF FF 05 0A FF FF FF FF";
-const WRAPPED_PROGRAM: &str = "AA 10 00 F0 F0 FF FF 05 0A FF FF FF FF F9 A5";
+pub const PROGRAM: &str = "10 00 F0 F0 FF FF 05 0A FF FF FF FF";
+pub const WRAPPED_PROGRAM: &str = "AA 10 00 F0 F0 FF FF 05 0A FF FF FF FF F9 A5";
 
 /// S1 and S2: identifiers and frames, both ways.
 #[test]
@@ -441,10 +441,13 @@ fn records_read_back() {
         Event::Wrap { input: frame(12), output: 15 },
         Event::Unwrap { input: frame(15), output: 12 },
         Event::AddressRule { address: 0x1000, command: 0x101 },
+        Event::UartPieces { ring: frame(LONGEST_RING), lengths: vec![7; MOST_CALLS] },
+        Event::UartPieces { ring: vec![], lengths: vec![0, 255] },
     ] {
         assert_eq!(Event::read(&event.write()), Some(event));
     }
     assert_eq!(Event::read(&[0xFF; RECORD]), None);
+    assert_eq!(Event::read(&[0x0F; RECORD]), None);
 }
 
 /// A recipe's header is read back, with what the record begins with.
@@ -466,11 +469,13 @@ fn headers_read_back() {
         step: 5,
         more: 6,
         begin,
+        piece: 0x1234,
         output: 70_000,
         recipe: vec![7; 65],
     };
     let mut stream = Vec::new();
     trial.write(&mut stream).unwrap();
     assert_eq!(stream.len(), 3 * RECORD);
+    assert_eq!(stream[38..41], [0x12, 0x34, 0]);
     assert_eq!(read(&stream), [trial]);
 }

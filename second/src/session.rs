@@ -13,6 +13,8 @@ pub const SESSION_FLASH: usize = 131_136;
 pub const SESSION_EEPROM: usize = 65_600;
 /// What a lent output of a conversion is filled with.
 const OUTPUT_FILL: u8 = 0xEE;
+/// Where the line of a piece has the bytes taken.
+pub const TAKEN_AT: usize = 2;
 
 pub struct Session {
     pub flash: Vec<u8>,
@@ -29,12 +31,22 @@ pub struct Session {
     restart: [u64; 2],
     can: [u64; 12],
     uart: [u64; 12],
+    piece: [u64; 12],
 }
 
-/// The answer to an event: its number, and the line's bytes with the kind in front.
+/// The answer to an event, or to the first call of UART pieces: its number, the line's bytes with
+/// the kind in front, and the calls behind it.
 pub struct Answer {
     pub number: u8,
     pub line: Vec<u8>,
+    pub left: Option<Event>,
+}
+
+impl Answer {
+    /// The bytes that a piece took.
+    pub fn taken(&self) -> usize {
+        self.line[TAKEN_AT] as usize
+    }
 }
 
 /// Answer bytes of a number, replies of one width, and the node.
@@ -78,10 +90,11 @@ impl Session {
             restart: [0; 2],
             can: [0; 12],
             uart: [0; 12],
+            piece: [0; 12],
         }
     }
 
-    /// Does one event; gives its answer where it has one.
+    /// Does one event; gives its answer where it has one. Of UART pieces it does the first call.
     pub fn apply(&mut self, event: &Event) -> Option<Answer> {
         let bytes = self.answer(event)?;
         let number = bytes[0];
@@ -89,13 +102,28 @@ impl Session {
             Event::Restart { .. } => self.restart[number as usize] += 1,
             Event::CanFrame(_) => self.can[number as usize] += 1,
             Event::UartByte(_) => self.uart[number as usize] += 1,
+            Event::UartPieces { .. } => self.piece[number as usize] += 1,
             _ => {}
         }
         let mut line = vec![event.kind()];
         line.extend(bytes);
         self.events += 1;
         self.digest.add(&line);
-        Some(Answer { number, line })
+        let left = line.get(TAKEN_AT).and_then(|&taken| event.calls_left(taken as usize));
+        Some(Answer { number, line, left })
+    }
+
+    /// Does one event, all its calls; gives their answers.
+    pub fn apply_all(&mut self, event: Event) -> Vec<Answer> {
+        let mut answers = Vec::new();
+        let mut next = Some(event);
+        while let Some(event) = next.take() {
+            if let Some(mut answer) = self.apply(&event) {
+                next = answer.left.take();
+                answers.push(answer);
+            }
+        }
+        answers
     }
 
     /// Does one event; gives its answer bytes, the number first, where it has some.
@@ -118,6 +146,12 @@ impl Session {
             Event::UartByte(byte) => {
                 let outcome = self.node.uart_byte(&mut lent, *byte);
                 with_replies(&outcome, WRAPPED, &self.node)
+            }
+            Event::UartPieces { .. } => {
+                let (taken, outcome) = self.node.uart_piece(&mut lent, event.piece()?);
+                let mut bytes = with_replies(&outcome, WRAPPED, &self.node);
+                bytes.insert(TAKEN_AT - 1, taken as u8);
+                bytes
             }
             Event::Show(address) => {
                 let (number, part) = lent.show(*address);
@@ -190,8 +224,12 @@ impl Session {
     /// The closing line.
     pub fn closing_line(&self) -> String {
         let join = |counts: &[u64]| counts.iter().map(|n| format!(" {n}")).collect::<String>();
+        let pieces = match self.piece.iter().sum() {
+            0_u64 => String::new(),
+            _ => format!(" piece{}", join(&self.piece)),
+        };
         format!(
-            "session {} events {} digest {} flash {} eeprom {} restart{} can{} uart{}",
+            "session {} events {} digest {} flash {} eeprom {} restart{} can{} uart{}{pieces}",
             self.number,
             self.events,
             self.digest.value(),
@@ -207,14 +245,18 @@ impl Session {
 /// Interprets a whole stream and prints what PROTOCOL.md says.
 pub fn answer_stream(stream: &[u8], out: &mut impl Write) -> io::Result<()> {
     let mut session = Session::new();
-    for event in records(stream).filter_map(Event::read) {
-        if let Some(answer) = session.apply(&event) {
-            if session.events <= session.full as u64 {
-                writeln!(out, "{}", hex(&answer.line))?;
+    for record in records(stream) {
+        let mut next = Event::read(record);
+        while let Some(event) = next.take() {
+            if let Some(answer) = session.apply(&event) {
+                if session.events <= session.full as u64 {
+                    writeln!(out, "{}", hex(&answer.line))?;
+                }
+                next = answer.left;
             }
-        }
-        if event == Event::End {
-            writeln!(out, "{}", session.closing_line())?;
+            if event == Event::End {
+                writeln!(out, "{}", session.closing_line())?;
+            }
         }
     }
     Ok(())

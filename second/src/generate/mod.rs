@@ -1,16 +1,17 @@
 //! Makes session streams, steered by the program's own node so that much happens on both ports.
 
 mod asks;
+mod pieces;
 mod ports;
 mod records;
 mod requests;
 mod restarts;
 
-use crate::event::{Event, LONGEST, LONGEST_CAN};
+use crate::event::{Event, LONGEST, LONGEST_CAN, LONGEST_RING, MOST_CALLS, PIECES};
 use crate::memory::{EEPROM_BASE, EEPROM_CELLS, FLASH_CELLS};
 use crate::node::Mode;
 use crate::random::Random;
-use crate::session::Session;
+use crate::session::{Answer, Session};
 use std::io::{self, Write};
 
 struct Writer<'a, W: Write> {
@@ -24,11 +25,15 @@ struct Writer<'a, W: Write> {
     row: u32,
     /// How many percent of UART frames are damaged.
     damage: usize,
+    /// Whether UART bytes come in pieces, and those that wait for that.
+    in_pieces: bool,
+    ring: Vec<u8>,
     result: io::Result<()>,
 }
 
-/// Writes a stream of sessions.
+/// Writes a stream of sessions, with UART bytes one by one or in pieces.
 pub fn generate(
+    in_pieces: bool,
     seed: u64,
     sessions: u32,
     events: u64,
@@ -37,12 +42,14 @@ pub fn generate(
 ) -> io::Result<()> {
     let mut writer = Writer {
         out,
-        random: Random::new(seed),
+        random: Random::new(if in_pieces { seed ^ 0x91EC_E500 } else { seed }),
         session: Session::new(),
         limit: events,
         block: 0x001000,
         row: 0xF00020,
         damage: 0,
+        in_pieces,
+        ring: Vec::new(),
         result: Ok(()),
     };
     for index in 0..sessions {
@@ -52,11 +59,22 @@ pub fn generate(
 }
 
 impl<W: Write> Writer<'_, W> {
-    /// Writes an event and does it; events behind the session's limit are left out.
+    /// Writes an event and does it. Where UART bytes come in pieces, a byte goes into the ring, and
+    /// that is handed over before another event.
     fn emit(&mut self, event: Event) {
+        match event {
+            Event::UartByte(byte) if self.in_pieces => return self.put_in_ring(byte),
+            Event::Begin { .. } | Event::End => self.ring.clear(),
+            _ => self.hand_over(),
+        }
+        self.write(event);
+    }
+
+    /// Writes an event and does it, all its calls; events behind the session's limit are left out.
+    fn write(&mut self, event: Event) -> Vec<Answer> {
         let outside = matches!(event, Event::Begin { .. } | Event::End);
         if !outside && self.session.events >= self.limit {
-            return;
+            return vec![];
         }
         let mut record = event.write();
         let longest = LONGEST as u8;
@@ -70,10 +88,16 @@ impl<W: Write> Writer<'_, W> {
         if event.kind() == 0x0A && record[6] == longest {
             record[6] = self.random.pick(&[20, 21, 255]);
         }
+        if event.kind() == PIECES && record[1] == LONGEST_RING as u8 {
+            record[1] = self.random.pick(&[44, 45, 255]);
+        }
+        if event.kind() == PIECES && record[2] == MOST_CALLS as u8 {
+            record[2] = self.random.pick(&[16, 17, 255]);
+        }
         if self.result.is_ok() {
             self.result = self.out.write_all(&record);
         }
-        self.session.apply(&event);
+        self.session.apply_all(event)
     }
 
     /// One whole session.
@@ -89,7 +113,11 @@ impl<W: Write> Writer<'_, W> {
             if index % 4 < 2 { (0, 0) } else { (1 | self.random.any(), self.random.any()) };
         self.emit(Event::Begin { flash, eeprom, fixed, full, step, more });
         while self.session.events < self.limit && self.result.is_ok() {
-            self.scene();
+            if self.in_pieces {
+                self.piece_scene();
+            } else {
+                self.scene();
+            }
         }
         self.emit(Event::End);
     }

@@ -13,10 +13,12 @@ pub enum Port {
 }
 
 impl<W: Write> Writer<'_, W> {
-    /// Mostly CAN, as a UART frame takes fifteen events; seldom UART where the node won't hear.
+    /// Mostly CAN, as a UART frame takes fifteen events, but not in pieces; seldom UART where the
+    /// node won't hear.
     pub fn port(&mut self) -> Port {
         let hears = self.session.node.pin == Pin::CanAndUart && !self.deaf();
-        if self.random.chance(if hears { 25 } else { 3 }) {
+        let often = if self.in_pieces { 70 } else { 25 };
+        if self.random.chance(if hears { often } else { 3 }) {
             Port::Uart
         } else {
             Port::Can
@@ -104,6 +106,7 @@ impl<W: Write> Writer<'_, W> {
 
     /// Completes the bytes already held: with the right sum, or with wrong bytes.
     pub fn finish_held(&mut self) {
+        self.hand_over();
         let node = self.session.node.tidied();
         let count = node.held_count as usize;
         if count == 0 {
