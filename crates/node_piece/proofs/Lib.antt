@@ -1,1 +1,3 @@
-mod Gathering
+mod Judging
+mod Filling
+mod Returning

@@ -1,1 +1,80 @@
-// UART in pieces.
+// UART in pieces. The call takes any record, which it tidies, a piece of any length and lent memories of any length; it asks nothing of its
+// caller. The answer says how many bytes were taken, and what the last of them gave.
+mod gathering;
+
+ghost use mathlib.Core.Path.{_≡_};
+ghost use Rattle.node_piece_rules.specs.Piece.{pieceAfter, pieceStep};
+ghost use Rattle.node_piece.specs.Internal.Gathered.{silentPiece};
+use node_piece_rules::PieceAnswer;
+use node_rules::Mode;
+use node_rules::Node;
+use node_rules::Staged;
+use node_rules::UartAnswer;
+
+// No reply, and so many bytes taken.
+fn silent(taken: usize, number: u8, n: Node) -> PieceAnswer
+    ensures { λ r. ⌜ r ≡ silentPiece taken number n ⌝ }
+{
+    PieceAnswer {
+        taken,
+        answer: node_port::silent(number, n),
+    }
+}
+
+// A piece of bytes from UART: 1, 2 and 3 in this order, with no byte taken; then its bytes are gathered up to one that completes a frame,
+// which goes the way of a CAN frame where its sum and stop are right. 10 where no frame is complete at the end.
+pub fn uart_piece(node: Node, piece: &[u8], flash: &mut [u8], eeprom: &mut [u8]) -> PieceAnswer
+    ensures { λ r. ⌜
+        pieceAfter r (now (flash .exit)) (now (eeprom .exit))
+        ≡ pieceStep node (now (piece .entry)) (now (flash .entry)) (now (eeprom .entry)) ⌝ }
+{
+    let mut n = node;
+    let receiver = node_record::tidy_receiver(n.receiver);
+    n.receiver = receiver;
+    let was = n.mode;
+    if !node_record::is_tidy(was) {
+        n = node_record::with_mode(n, Mode::Programming(Staged::Nothing));
+    }
+    if !node_frame::full(flash, eeprom) {
+        return silent(0, 1, n);
+    }
+    let choices = n.choices;
+    let pin = choices.pin;
+    if node_port::is_closed(pin) {
+        return silent(0, 2, n);
+    }
+    let mode = n.mode;
+    if node_frame::is_deaf(mode) {
+        return silent(0, 3, n);
+    }
+    let g = gathering::gather(receiver, piece);
+    let r = g.receiver;
+    if r.count < 15 {
+        n.receiver = r;
+        return silent(g.taken, 10, n);
+    }
+    let whole = r.held;
+    let mut frame = [0u8; 12];
+    let number = frame_uart::unwrap(&whole, &mut frame);
+    if number != 0 {
+        let kept = node_port::held_after_bad(choices, whole);
+        n.receiver = kept;
+        return silent(g.taken, 11, n);
+    }
+    let none = node_record::none_held();
+    n.receiver = none;
+    let a = node_can::can_frame(n, &frame, flash, eeprom);
+    let replies = a.replies;
+    let wrapped = node_reply_uart::wrapped_replies(a.count, replies);
+    let then = a.node;
+    let answer = UartAnswer {
+        number: a.number,
+        count: a.count,
+        replies: wrapped,
+        node: then,
+    };
+    PieceAnswer {
+        taken: g.taken,
+        answer,
+    }
+}

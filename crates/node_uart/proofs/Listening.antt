@@ -75,7 +75,7 @@ judged t ys flash eeprom =
     (silent 11 (holding t (heldAfterBad (t .choices) ys)) flash eeprom))
 
 -- one byte more behind those that are held
-room-behind : (xs : List ℕ) (b : ℕ) → length xs ≤ 14 → set (padded xs) (length xs) b ≡ padded (xs ++ (b ∷ []))
+pub room-behind : (xs : List ℕ) (b : ℕ) → length xs ≤ 14 → set (padded xs) (length xs) b ≡ padded (xs ++ (b ∷ []))
 room-behind xs b l =
     let k : 15 - length xs ≡ suc (14 - length xs) = omega arith in
     let j : 15 - length (xs ++ (b ∷ [])) ≡ 14 - length xs = omega (arith, length-append xs (b ∷ [])) in
@@ -84,7 +84,7 @@ room-behind xs b l =
     ∙ sym (append-assoc xs (b ∷ []) (replicate (14 - length xs) 0))
     ∙ ap (λ (m : ℕ). (xs ++ (b ∷ [])) ++ replicate m 0) (sym j)
 
-held-behind : (xs : List ℕ) (b : ℕ) → (length xs ≡ 0 → ⊥) ⊎ (b ≡ 0xAA) → heldWith xs b ≡ xs ++ (b ∷ [])
+pub held-behind : (xs : List ℕ) (b : ℕ) → (length xs ≡ 0 → ⊥) ⊎ (b ≡ 0xAA) → heldWith xs b ≡ xs ++ (b ∷ [])
 held-behind [] b (inl m) = absurd (m refl)
 held-behind [] b (inr e) = rw (eq-eqb b 0xAA e) refl
 held-behind (x ∷ xs) b o = refl
@@ -93,7 +93,7 @@ no-bytes : (xs : List ℕ) → length xs ≡ 0 → xs ≡ []
 no-bytes [] e = refl
 no-bytes (x ∷ xs) e = absurd (suc-ne-zero (length xs) e)
 
-unwrap-right : (w : List ℕ) → length w ≡ 15 → eqb (unwrapNumber w 12) 0 ≡ rightlyWrapped w
+pub unwrap-right : (w : List ℕ) → length w ≡ 15 → eqb (unwrapNumber w 12) 0 ≡ rightlyWrapped w
 unfolding unwrapNumber
 unwrap-right w l = go (rightlyWrapped w) refl
   where

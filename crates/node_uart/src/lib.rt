@@ -1,6 +1,5 @@
 // A UART byte. The call takes any record, which it tidies, and lent memories of any length; it asks nothing of its caller. The answer has
 // the number of document 01, the replies, wrapped, and the node.
-mod port;
 
 ghost use mathlib.Core.Path.{_≡_};
 ghost use Rattle.node_rules.specs.Uart.{uartAfter, uartStep};
@@ -24,21 +23,21 @@ pub fn uart_byte(node: Node, byte: u8, flash: &mut [u8], eeprom: &mut [u8]) -> U
         n = node_record::with_mode(n, Mode::Programming(Staged::Nothing));
     }
     if !node_frame::full(flash, eeprom) {
-        return port::silent(1, n);
+        return node_port::silent(1, n);
     }
     let choices = n.choices;
     let pin = choices.pin;
-    if port::is_closed(pin) {
-        return port::silent(2, n);
+    if node_port::is_closed(pin) {
+        return node_port::silent(2, n);
     }
     let mode = n.mode;
     if node_frame::is_deaf(mode) {
-        return port::silent(3, n);
+        return node_port::silent(3, n);
     }
     let count = n.receiver.count;
     if count == 0 {
         if byte != 0xAA {
-            return port::silent(10, n);
+            return node_port::silent(10, n);
         }
     }
     if count < 14 {
@@ -46,16 +45,16 @@ pub fn uart_byte(node: Node, byte: u8, flash: &mut [u8], eeprom: &mut [u8]) -> U
         r.held[count] = byte;
         r.count = count + 1;
         n.receiver = r;
-        return port::silent(10, n);
+        return node_port::silent(10, n);
     }
     let mut whole = n.receiver.held;
     whole[14] = byte;
     let mut frame = [0u8; 12];
     let number = frame_uart::unwrap(&whole, &mut frame);
     if number != 0 {
-        let r = port::held_after_bad(choices, whole);
+        let r = node_port::held_after_bad(choices, whole);
         n.receiver = r;
-        return port::silent(11, n);
+        return node_port::silent(11, n);
     }
     let none = node_record::none_held();
     n.receiver = none;

@@ -1,4 +1,4 @@
-// The UART port: whether it is open, an answer with no reply, and what stays held of a bad frame.
+// The UART port, for a byte and for a piece: whether it is open, an answer with no reply, and what stays held of a bad frame.
 ghost use mathlib.Core.Path.{_≡_};
 ghost use Rattle.node_rules.specs.Record.{receiving};
 ghost use Rattle.node_rules.specs.Uart.{silentOnUart, isClosed, heldAfterBad};

@@ -1,9 +1,9 @@
--- `node_uart::port::held_after_bad` meets its contract: nothing stays held.
+-- `node_port::held_after_bad` meets its contract: nothing stays held.
 -- Assumes nothing.
 use Rattle.node_rules.specs.Uart.{heldAfterBad}
 use borrow.Author.Needs.{needs}
-use Rattle.node_uart.proofs.port.held_after_bad.Statement.{statement}
-use Rattle.node_uart.proofs.port.held_after_bad.Tie as tie
+use Rattle.node_port.proofs.held_after_bad.Statement.{statement}
+use Rattle.node_port.proofs.held_after_bad.Tie as tie
 
 none-held-requires : tie.Need-none-held-requires
 none-held-requires c κs = search needs
