@@ -163,8 +163,8 @@ begins-behind xs bs from e =
       inr
           (⊎-elim (λ f. inl (drop-of-length-le bs {i = from} (omega (arith, e, f))))
           (λ f.
-              inr
-              (getD-drop from bs 0 0 ∙ ap (λ (i : ℕ). getD bs i 0) (let z : from + 0 ≡ skipCount bs = omega (arith, e) in z) ∙ f))
+          inr
+          (getD-drop from bs 0 0 ∙ ap (λ (i : ℕ). getD bs i 0) (let z : from + 0 ≡ skipCount bs = omega (arith, e) in z) ∙ f))
           (skip-finds bs)),
     )
 

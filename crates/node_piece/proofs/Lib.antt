@@ -1,3 +1,4 @@
+pub mod Tight
 mod Judging
 mod Filling
 mod Returning
