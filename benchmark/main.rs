@@ -3,13 +3,13 @@
 //!   peer answer < sessions
 //!   peer apply-recipes < recipes
 
+#[allow(dead_code)]
 mod peer;
 
 use peer::*;
 use std::io::{self, BufWriter, Read, Write};
 
 const RECORD: usize = 64;
-const NODE: usize = 31;
 /// The cells that a session has of each memory.
 const SESSION_FLASH: usize = 131_136;
 const SESSION_EEPROM: usize = 65_600;
@@ -32,23 +32,6 @@ fn number(bytes: &[u8], at: usize) -> u32 {
 /// The bytes from a place on, as many as another byte says, at most 20.
 fn part(record: &[u8], at: usize, length: u8) -> &[u8] {
     &record[at..at + length.min(20) as usize]
-}
-
-/// A tidied record as NODE. What is staged is 0 where it means nothing.
-fn node_bytes(node: &Node) -> [u8; NODE] {
-    let mut bytes = [0; NODE];
-    bytes[0] = node.uart as u8;
-    bytes[1..7].copy_from_slice(&node.fixed);
-    bytes[7..9].copy_from_slice(&node.own);
-    bytes[9] = node.count;
-    bytes[10..24].copy_from_slice(&node.held[..HELD]);
-    bytes[24] = node.mode as u8;
-    if node.mode == Mode::Programming && node.command != Command::Nothing {
-        bytes[25] = node.command as u8;
-        bytes[26] = (node.address >= EEPROM_FIRST) as u8;
-        bytes[27..].copy_from_slice(&node.address.to_be_bytes());
-    }
-    bytes
 }
 
 /// What is staged by its number, the kind of its address and the address. A record of the peer has

@@ -10,6 +10,7 @@ pub const FLASH_CELLS: usize = 65_536;
 pub const EEPROM_CELLS: usize = 1_024;
 pub const EEPROM_FIRST: u32 = 0xF0_0000;
 pub const HELD: usize = 14;
+pub const NODE: usize = 31;
 const START: u8 = 0xAA;
 const STOP: u8 = 0xA5;
 
@@ -61,6 +62,7 @@ pub enum Command {
 
 /// A node's record. A caller may hand in any: each call tidies it. What is staged outside
 /// programming mode means nothing.
+#[derive(Clone, Copy)]
 pub struct Node {
     /// The first `count`, at most 14; 0 behind them.
     pub held: [u8; 16],
@@ -259,6 +261,17 @@ impl Node {
         eeprom: &mut [u8],
         replies: &mut [u8; 30],
     ) -> Answer {
+        self.byte(byte, flash, eeprom, replies)
+    }
+
+    #[inline(always)]
+    fn byte(
+        &mut self,
+        byte: u8,
+        flash: &mut [u8],
+        eeprom: &mut [u8],
+        replies: &mut [u8; 30],
+    ) -> Answer {
         *replies = [0; 30];
         self.tidy();
         let (Ok(flash), Ok(eeprom)) =
@@ -281,6 +294,84 @@ impl Node {
             return quiet(10);
         }
         self.complete(byte, flash, eeprom, replies)
+    }
+
+    /// Hands the node a piece of UART bytes; gives how many of them it takes, and the answer to the
+    /// last of these. It stops behind a byte that gives another number than 10.
+    #[inline(never)]
+    pub fn uart_piece(
+        &mut self,
+        piece: &[u8],
+        flash: &mut [u8],
+        eeprom: &mut [u8],
+        replies: &mut [u8; 30],
+    ) -> (usize, Answer) {
+        self.piece(piece, flash, eeprom, replies)
+    }
+
+    #[inline(always)]
+    fn piece(
+        &mut self,
+        piece: &[u8],
+        flash: &mut [u8],
+        eeprom: &mut [u8],
+        replies: &mut [u8; 30],
+    ) -> (usize, Answer) {
+        *replies = [0; 30];
+        self.tidy();
+        let (Ok(flash), Ok(eeprom)) =
+            (<&mut Flash>::try_from(flash), <&mut Eeprom>::try_from(eeprom))
+        else {
+            return (0, quiet(1));
+        };
+        if !self.uart {
+            return (0, quiet(2));
+        }
+        if matches!(self.mode, Mode::Error | Mode::Waiting) {
+            return (0, quiet(3));
+        }
+        let mut at = 0;
+        let mut count = self.count as usize;
+        if count == 0 {
+            while at < piece.len() && piece[at] != START {
+                at += 1;
+            }
+            // A whole frame is taken from where it stands.
+            if let Some(whole) = piece[at..].first_chunk() {
+                return (at + 15, self.whole(whole, flash, eeprom, replies));
+            }
+        }
+        while count < HELD {
+            let Some(&byte) = piece.get(at) else {
+                self.count = count as u8;
+                return (at, quiet(10));
+            };
+            self.held[count] = byte;
+            count += 1;
+            at += 1;
+        }
+        self.count = count as u8;
+        match piece.get(at) {
+            Some(&last) => (at + 1, self.complete(last, flash, eeprom, replies)),
+            None => (at, quiet(10)),
+        }
+    }
+
+    /// Fifteen bytes where nothing is held. It is apart, so that what it needs costs a piece of a few
+    /// bytes nothing.
+    #[inline(never)]
+    fn whole(
+        &mut self,
+        whole: &[u8; 15],
+        flash: &mut Flash,
+        eeprom: &mut Eeprom,
+        replies: &mut [u8; 30],
+    ) -> Answer {
+        let frame = whole[1..13].try_into().unwrap();
+        if whole[14] != STOP || whole[13] != sum(frame) {
+            return quiet(11);
+        }
+        self.obey(frame, flash, eeprom, OnUart(replies))
     }
 
     /// The fifteenth byte. It is apart, so that what it needs costs the other fourteen nothing.
@@ -454,6 +545,49 @@ impl Node {
         }
         Answer { number: 0, count: 1 }
     }
+}
+
+/// A UART byte with the record by value, as the proved call takes and gives it.
+#[inline(never)]
+pub fn byte_by_value(
+    mut node: Node,
+    byte: u8,
+    flash: &mut [u8],
+    eeprom: &mut [u8],
+) -> (Answer, Node, [u8; 30]) {
+    let mut replies = [0; 30];
+    let answer = node.byte(byte, flash, eeprom, &mut replies);
+    (answer, node, replies)
+}
+
+/// A piece of UART bytes with the record by value.
+#[inline(never)]
+pub fn piece_by_value(
+    mut node: Node,
+    piece: &[u8],
+    flash: &mut [u8],
+    eeprom: &mut [u8],
+) -> (usize, Answer, Node, [u8; 30]) {
+    let mut replies = [0; 30];
+    let (taken, answer) = node.piece(piece, flash, eeprom, &mut replies);
+    (taken, answer, node, replies)
+}
+
+/// A record as NODE of second/PROTOCOL.md. What is staged is 0 where it means nothing.
+pub fn node_bytes(node: &Node) -> [u8; NODE] {
+    let mut bytes = [0; NODE];
+    bytes[0] = node.uart as u8;
+    bytes[1..7].copy_from_slice(&node.fixed);
+    bytes[7..9].copy_from_slice(&node.own);
+    bytes[9] = node.count;
+    bytes[10..24].copy_from_slice(&node.held[..HELD]);
+    bytes[24] = node.mode as u8;
+    if node.mode == Mode::Programming && node.command != Command::Nothing {
+        bytes[25] = node.command as u8;
+        bytes[26] = (node.address >= EEPROM_FIRST) as u8;
+        bytes[27..].copy_from_slice(&node.address.to_be_bytes());
+    }
+    bytes
 }
 
 /// Identifier and 8 data bytes to the 12 bytes of a frame; gives a number.

@@ -1,7 +1,7 @@
 #!/usr/bin/env python3
 """The rows of one kind: the stream that makes them, and the table of what callgrind counted.
 
-    rows.py streams WORK            writes the streams that ./bench counts: the rows, restarts, and WORK/recipe on either port
+    rows.py streams WORK            writes the streams that ./bench counts: the rows, restarts, WORK/recipe on either port and in pieces
     rows.py table WORK COLUMN ..    prints the table of WORK/COLUMN.*.count*, Rattle being the first column
 
 The stream has a few hundred equal events for each row, and a restart behind them: before each restart callgrind writes down what it has
@@ -112,11 +112,38 @@ ROWS = [
     ('rule', 'a row of FLASH', TIMES * [record(0x0E, FLASH.to_bytes(4, 'big'), b'\0\0\0\2')]),
     ('rule', 'a row of EEPROM', TIMES * [record(0x0E, EEPROM.to_bytes(4, 'big'), b'\0\0\0\2')]),
 ]
+# The lengths of pieces, 0 being byte by byte.
+PIECES = (0, 1, 15, 64, 4096)
 # Rows that are runs of their own: the call, what it is handed, the run.
 RUNS = [
     ('restart', 'with the firmware sum', 'restarts'),
     ('translate', 'a recipe of 2,048 items', 'can'),
 ]
+
+
+def frames(recipe):
+    """The frames that a recipe becomes."""
+    numbers, at = b'', 0
+    while at < len(recipe):
+        kind, body = recipe[at], recipe[at + 1:]
+        address = int.from_bytes(body[:3], 'big')
+        if kind == 0x01:
+            numbers, length = body[:2], 2
+        elif kind == 0x02:
+            yield address_frame(address, ERASE, numbers=numbers)
+            yield frame(0x040, b'\xFF' * 8, numbers=numbers)
+            for row in range(0, 64, 8):
+                yield address_frame(address + row, WRITE, numbers=numbers)
+                yield frame(0x040, body[3 + row:11 + row], numbers=numbers)
+            length = 67
+        elif kind == 0x03:
+            yield address_frame(address, WRITE, numbers=numbers)
+            yield frame(0x040, body[3:11], numbers=numbers)
+            length = 11
+        else:
+            yield frame(0x020, b'\xFF' * 8, numbers=numbers)
+            length = 0
+        at += 1 + length
 
 
 def streams(work):
@@ -133,8 +160,19 @@ def streams(work):
         ('restarts', b''.join([*restarts, end])),
         ('can', recipe[:1] + b'\0' + recipe[2:]),
         ('uart', recipe[:1] + b'\1' + recipe[2:]),
+        *pieces(recipe),
     ):
         open(f'{work}/{name}', 'wb').write(stream)
+
+
+def pieces(recipe):
+    """The recipe's bytes on UART behind the length of a piece and the own numbers, and the same with no bytes: names and streams."""
+    own, length = recipe[4:6], int.from_bytes(recipe[6:10], 'big')
+    serial = b''.join(wrapped(inner) for inner in frames(recipe[64:64 + length]))
+    for piece in PIECES:
+        head = piece.to_bytes(2, 'big') + own
+        yield f'pieces.{piece}', head + serial
+        yield f'pieces.{piece}.none', head
 
 
 def inside(path, function):
