@@ -16,7 +16,9 @@ use Rattle.node_rules.specs.Restart.{restartStep}
 use Rattle.node_rules.specs.Step.{Step, after, canStep}
 use Rattle.node_rules.specs.Uart.{UartStep, uartAfter, uartStep}
 use Rattle.node_rules.specs.Runs.{State, endOf, behindFrame, framesIn, behindByte, bytesIn}
-use Rattle.node.specs.Calls.{Fresh, Restart, RestartWith, CanFrame, UartByte, call, CanFrames, UartBytes, none, more}
+use Rattle.node_piece_rules.specs.declared.PieceAnswer.{PieceAnswer}
+use Rattle.node_piece_rules.specs.Piece.{pieceAfter, pieceStep}
+use Rattle.node.specs.Calls.{Fresh, Restart, RestartWith, CanFrame, UartByte, UartPiece, call, CanFrames, UartBytes, none, more}
 
 pub fresh-said : {six : List ℕ} {n : Node} → Fresh six n → n ≡ freshNode six
 fresh-said (call κs a r s p) = p
@@ -36,6 +38,10 @@ can-frame-said (call κs a r s p) = p
 pub uart-byte-said : {n : Node} {b : ℕ} {flash eeprom flash′ eeprom′ : List ℕ} {r : UartAnswer} → UartByte n b flash eeprom r flash′ eeprom′
     → uartAfter r flash′ eeprom′ ≡ uartStep n b flash eeprom
 uart-byte-said (call κs a r s p) = p
+
+pub uart-piece-said : {n : Node} {p flash eeprom flash′ eeprom′ : List ℕ} {r : PieceAnswer} → UartPiece n p flash eeprom r flash′ eeprom′
+    → pieceAfter r flash′ eeprom′ ≡ pieceStep n p flash eeprom
+uart-piece-said (call κs a r s p) = p
 
 -- ---- runs
 

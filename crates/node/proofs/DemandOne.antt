@@ -25,7 +25,8 @@ use Rattle.node_rules.proofs.Spoiling.{can-protected, uart-protected, can-lengt
 use Rattle.node_rules.proofs.StaysTidy.{can-tidy, uart-tidy, restart-tidy, fresh-tidy}
 use Rattle.node_rules.proofs.ForOthers.{can-others, uart-others}
 use Rattle.node.proofs.Calls.{fresh-said, restart-with-said, can-frame-said, uart-byte-said}
-use Rattle.node.specs.Calls.{Fresh, RestartWith, CanFrame, UartByte, OneCall, restarted, restarted-with, framed, heard}
+use Rattle.node.proofs.Pieces.{uart-piece-protected, uart-piece-lengths}
+use Rattle.node.specs.Calls.{Fresh, RestartWith, CanFrame, UartByte, OneCall, restarted, restarted-with, framed, heard, pieced}
 
 -- ---- a call of can_frame: whatever its contract allows
 
@@ -130,6 +131,7 @@ one-call-protected (restarted c) i p = refl
 one-call-protected (restarted-with c) i p = refl
 one-call-protected (framed c) i p = can-frame-protected c i p
 one-call-protected (heard c) i p = uart-byte-protected c i p
+one-call-protected (pieced c) i p = uart-piece-protected c i p
 
 pub one-call-lengths : {flash eeprom flash′ eeprom′ : List ℕ} → OneCall flash eeprom flash′ eeprom′
     → (length flash′ ≡ length flash) × (length eeprom′ ≡ length eeprom)
@@ -137,3 +139,4 @@ one-call-lengths (restarted c) = (refl, refl)
 one-call-lengths (restarted-with c) = (refl, refl)
 one-call-lengths (framed c) = can-frame-lengths c
 one-call-lengths (heard c) = uart-byte-lengths c
+one-call-lengths (pieced c) = uart-piece-lengths c

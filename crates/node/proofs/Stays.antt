@@ -1,5 +1,5 @@
 -- "They stay until the next restart, whatever is written meanwhile", over the calls' real contracts (Calls.antt): own numbers, fixed bytes
--- and choices are as they were after any frame and any byte, and after any run of them. Each contract is one equation with the rules'
+-- and choices are as they were after any frame, any byte and any piece, and after any run of them. Each contract is one equation with the rules'
 -- step, so the law of the step (Staying, of node_rules) is a law of the call.
 -- Assumes nothing.
 use mathlib.Core.Path.{_≡_, _∙_, refl, ap}
@@ -16,7 +16,8 @@ use Rattle.node_rules.specs.Uart.{UartStep}
 use Rattle.node_rules.specs.Restart.{plateRead}
 use Rattle.node_rules.proofs.Staying.{can-stays, uart-stays}
 use Rattle.node.proofs.Calls.{can-frame-said, uart-byte-said}
-use Rattle.node.specs.Calls.{RestartWith, CanFrame, UartByte, NoRestart, none, framed, heard}
+use Rattle.node.specs.Calls.{RestartWith, CanFrame, UartByte, NoRestart, none, framed, heard, pieced}
+use Rattle.node.proofs.Pieces.{uart-piece-stays}
 use Rattle.node.proofs.Restarts.{restart-with-done}
 
 -- a frame: the plate, with own numbers and fixed bytes, and the choices
@@ -48,8 +49,12 @@ no-restart-stays (heard c rest) =
     let k = no-restart-stays rest in
     let one = uart-byte-stays c in
     (k .0 ∙ one .0, k .1 ∙ one .1)
+no-restart-stays (pieced c rest) =
+    let k = no-restart-stays rest in
+    let one = uart-piece-stays c in
+    (k .0 ∙ one .0, k .1 ∙ one .1)
 
--- a restart that gave 0, and then any frames and bytes: the own numbers are those that EEPROM held at the restart, the fixed bytes those
+-- a restart that gave 0, and then any frames, bytes and pieces: the own numbers are those that EEPROM held at the restart, the fixed bytes those
 -- of before it, and the choices its own
 pub from-restart : {n n′ : Node} {choices : Choices} {passed : Bool} {flash eeprom flash′ eeprom′ : List ℕ} {r : Restarted}
     → RestartWith n choices passed flash eeprom r → r .number ≡ 0 → NoRestart (r .node) flash eeprom n′ flash′ eeprom′

@@ -15,7 +15,7 @@ use Rattle.node_rules.specs.Runs.{state, endOf, behindByte, bytesIn, AllTen}
 use Rattle.node_rules.specs.Others.{emptied}
 use Rattle.node_rules.proofs.Agreement.{byte-tidied}
 use Rattle.node_rules.proofs.Tidying.{tidy-twice}
-use Rattle.node_piece_rules.specs.Piece.{PieceStep, takesNone, takenOf, noByte, lastOf, lastTaken, pieceStep}
+use Rattle.node_piece_rules.specs.Piece.{PieceStep, takesNone, takenOf, noByte, lastOf, lastTaken, pieceStep, nodeBefore}
 use Rattle.node_piece_rules.proofs.Stopping.{stops-before, by-taken}
 use Rattle.node_piece_rules.proofs.Opening.{Refused, Opened, refused-or-open, open-waits, open-hears, still-open}
 use Rattle.node_piece_rules.proofs.Taking.{none-there, last-is, taken-few}
@@ -26,15 +26,11 @@ module _ (n : Node) (bs flash eeprom : List ℕ) where
   unfolding pieceStep
   piece-none e = ap (lastOf (noByte n flash eeprom)) (none-there (takenOf (bytesIn bs (state n flash eeprom))) e)
 
-  -- the node before the byte with j bytes in front of it
-  abbrev pub nodeBefore : ℕ → Node
-  nodeBefore j = endOf behindByte (state n flash eeprom) (bytesIn (take j bs) (state n flash eeprom)) .node
-
   -- a byte taken, with j in front of it, and no more: it gives the answer, those in front give 10, and of the record no more than what is
   -- held has changed before it
   pub piece-some : (j : ℕ) → pieceStep n bs flash eeprom .taken ≡ suc j
-      → (pieceStep n bs flash eeprom .last ≡ uartStep (nodeBefore j) (getD bs j 0) flash eeprom)
-      × (emptied (tidied (nodeBefore j)) ≡ emptied (tidied n))
+      → (pieceStep n bs flash eeprom .last ≡ uartStep (nodeBefore n bs flash eeprom j) (getD bs j 0) flash eeprom)
+      × (emptied (tidied (nodeBefore n bs flash eeprom j)) ≡ emptied (tidied n))
       × AllTen flash eeprom (bytesIn (take j bs) (state n flash eeprom))
   unfolding pieceStep
   piece-some j e = last-is flash eeprom bs n (noByte n flash eeprom) j e
@@ -53,7 +49,7 @@ module _ (n : Node) (bs flash eeprom : List ℕ) where
       go zero e = subst P (sym (piece-none e)) none
       go (suc j) e =
           let h = piece-some j e in
-          let m = nodeBefore j in
+          let m = nodeBefore n bs flash eeprom j in
           subst P (sym (h .0 ∙ byte-tidied m (getD bs j 0) flash eeprom)) (some (tidied m) (getD bs j 0) (h .1) (tidy-twice m))
 
   -- where bytes are refused none is taken

@@ -3,15 +3,14 @@
 -- what stands behind those bytes, tidied, to which the next byte does what it does to the untidied. What a frame asks, and what 11 leaves,
 -- are not looked at.
 -- Assumes nothing.
-use mathlib.Core.Path.{_≡_, _∙_, refl, sym, ap, subst}
-use mathlib.Core.Bool.{Bool, true, false, cond, false≢true}
+use mathlib.Core.Path.{_≡_, _∙_, refl, sym, ap}
+use mathlib.Core.Bool.{Bool, true, false, cond}
 use mathlib.Core.List.{List, [], _∷_, _++_}
-use mathlib.Core.Logic.{_⊎_, ⊎-elim}
-use Prim.Native.Nat.{ℕ, suc, _+_, _≤_}
+use Prim.Native.Nat.{ℕ, _+_, _≤_}
 use native.Mathlib.Omega.{arith}
 use lib.Dec.{eqb}
-use lib.ListN.{length, take, drop, length-drop, length-append}
-use lib.Seq.{take-append-le, take-add, drop-drop}
+use lib.ListN.{take, drop, length-take}
+use lib.Seq.{take-take, take-add}
 use Rattle.node_rules.specs.declared.Node.{Node}
 use Rattle.node_rules.specs.Record.{tidied}
 use Rattle.node_rules.specs.Uart.{UartStep, uartStep, silent}
@@ -121,25 +120,31 @@ Cut rs s ps end =
     (butTens (lastsOf ps) ≡ butTens (bytesIn (take (takenInAll ps) rs) s))
     × (tidiedState end ≡ tidiedState (endOf behindByte s (bytesIn (take (takenInAll ps) rs) s)))
 
--- one piece more in front, handed p of p ++ q
-pub cut-more : (n : Node) (p q flash eeprom : List ℕ) (ps : List PieceStep) (end : State)
-    → takesNone (pieceStep n p flash eeprom .last .answer .number) ≡ false
-    → Cut (drop (pieceStep n p flash eeprom .taken) (p ++ q)) (behindByte (pieceStep n p flash eeprom .last)) ps end
-    → Cut (p ++ q) (state n flash eeprom) (pieceStep n p flash eeprom ∷ ps) end
-cut-more n p q flash eeprom ps end f ih =
+-- a piece takes none but the bytes that it is handed
+takes-of : (n : Node) (k : ℕ) (rs flash eeprom : List ℕ)
+    → take (pieceStep n (take k rs) flash eeprom .taken) (take k rs) ≡ take (pieceStep n (take k rs) flash eeprom .taken) rs
+takes-of n k rs flash eeprom =
+    let few = piece-few n (take k rs) flash eeprom in
+    take-take (pieceStep n (take k rs) flash eeprom .taken) k rs (omega (arith, few, length-take k rs))
+
+-- one piece more in front, handed the first k of rs
+pub cut-more : (n : Node) (k : ℕ) (rs flash eeprom : List ℕ) (ps : List PieceStep) (end : State)
+    → takesNone (pieceStep n (take k rs) flash eeprom .last .answer .number) ≡ false
+    → Cut (drop (pieceStep n (take k rs) flash eeprom .taken) rs) (behindByte (pieceStep n (take k rs) flash eeprom .last)) ps end
+    → Cut rs (state n flash eeprom) (pieceStep n (take k rs) flash eeprom ∷ ps) end
+cut-more n k rs flash eeprom ps end f ih =
     let s = state n flash eeprom in
+    let p = take k rs in
     let one = pieceStep n p flash eeprom in
-    let k = one .taken in
-    let ys = take (takenInAll ps) (drop k (p ++ q)) in
-    let xs = take k p in
+    let xs = take (one .taken) p in
+    let ys = take (takenInAll ps) (drop (one .taken) rs) in
     let e = endOf behindByte s (bytesIn xs s) in
-    let split : take (k + takenInAll ps) (p ++ q) ≡ xs ++ ys =
-    take-add k (takenInAll ps) (p ++ q)
-    ∙ ap (λ (zs : List ℕ). zs ++ ys) (take-append-le k p q (piece-few n p flash eeprom)) in
+    let split : take (one .taken + takenInAll ps) rs ≡ xs ++ ys =
+    take-add (one .taken) (takenInAll ps) rs ∙ ap (λ (zs : List ℕ). zs ++ ys) (sym (takes-of n k rs flash eeprom)) in
     let step : ℕ → State → UartStep = λ b t. uartStep (t .node) b (t .flash) (t .eeprom) in
     let there : behindByte (one .last) ≡ tidiedState e = behind-piece n p flash eeprom in
     let later : bytesIn ys (behindByte (one .last)) ≡ bytesIn ys e = ap (bytesIn ys) there ∙ from-tidied ys e in
-    let all : bytesIn (take (k + takenInAll ps) (p ++ q)) s ≡ bytesIn xs s ++ bytesIn ys e =
+    let all : bytesIn (take (one .taken + takenInAll ps) rs) s ≡ bytesIn xs s ++ bytesIn ys e =
     ap (λ (zs : List ℕ). bytesIn zs s) split ∙ steps-append step behindByte xs ys s in (
       tens-append (one .last ∷ []) (lastsOf ps)
           ∙ ap (λ (zs : List UartStep). butTens (one .last ∷ []) ++ zs) (ih .0 ∙ ap butTens later)
@@ -153,15 +158,8 @@ cut-more n p q flash eeprom ps end f ih =
           ∙ sym (ap (λ (zs : List UartStep). tidiedState (endOf behindByte s zs)) all),
     )
 
--- what is left
-pub left-more : (k : ℕ) (ps : List PieceStep) (rs : List ℕ) → drop (takenInAll ps) (drop k rs) ≡ drop (k + takenInAll ps) rs
-left-more k ps rs = drop-drop (takenInAll ps) k rs
-
--- a piece with a byte in it that isn't refused leaves fewer bytes than there were
-pub piece-gets-on : (n : Node) (b : ℕ) (p q flash eeprom : List ℕ)
-    → takesNone (pieceStep n (b ∷ p) flash eeprom .last .answer .number) ≡ false
-    → suc (length (drop (pieceStep n (b ∷ p) flash eeprom .taken) (b ∷ p ++ q))) ≤ length (b ∷ p ++ q)
-piece-gets-on n b p q flash eeprom f =
-    let k = pieceStep n (b ∷ p) flash eeprom .taken in
-    let one = open-takes-one n b p flash eeprom (piece-heard n (b ∷ p) flash eeprom f) in
-    omega (arith, one, length-drop k (b ∷ p ++ q))
+-- a piece with a byte in it that isn't refused takes one at least
+pub piece-gets-on : (n : Node) (p flash eeprom : List ℕ) → (p ≡ [] → ⊥)
+    → takesNone (pieceStep n p flash eeprom .last .answer .number) ≡ false → 1 ≤ pieceStep n p flash eeprom .taken
+piece-gets-on n [] flash eeprom m f = absurd (m refl)
+piece-gets-on n (b ∷ p) flash eeprom m f = open-takes-one n b p flash eeprom (piece-heard n (b ∷ p) flash eeprom f)

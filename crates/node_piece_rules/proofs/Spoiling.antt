@@ -24,9 +24,9 @@ use Rattle.node_rules.proofs.Staying.{SameNumbers, uart-stays}
 use Rattle.node_rules.proofs.Modes.{uart-deaf, uart-normal, uart-programming, tidy-deaf, tidy-normal, tidy-programming}
 use Rattle.node_rules.proofs.ForOthers.{uart-others}
 use Rattle.node_rules.proofs.Tidying.{tidy-twice}
-use Rattle.node_piece_rules.specs.Piece.{PieceStep, pieceStep}
+use Rattle.node_piece_rules.specs.Piece.{PieceStep, pieceStep, nodeBefore, frameAt}
 use Rattle.node_piece_rules.proofs.Opening.{refused-or-open}
-use Rattle.node_piece_rules.proofs.Answering.{nodeBefore, piece-some, piece-by, refused-takes-none}
+use Rattle.node_piece_rules.proofs.Answering.{piece-some, piece-by, refused-takes-none}
 
 -- a number but 0: no reply, both memories as they were
 abbrev pub Silent : List ℕ → List ℕ → UartStep → Type 0
@@ -93,12 +93,9 @@ module _ (n : Node) (bs flash eeprom : List ℕ) where
 
   -- ---- the frame that the byte with j bytes in front of it completes, or would complete
 
-  abbrev pub frameAt : ℕ → List ℕ
-  frameAt j = innerOf (heldWith (heldOf (tidied (nodeBefore n bs flash eeprom j))) (getD bs j 0))
-
   -- programming afterwards and not before: 0x100
   pub piece-programming : (j : ℕ) → pieceStep n bs flash eeprom .taken ≡ suc j → isProgramming (n .mode) ≡ false
-      → isProgramming (left .answer .node .mode) ≡ true → typeOf (frameAt j) ≡ 0x100
+      → isProgramming (left .answer .node .mode) ≡ true → typeOf (frameAt n bs flash eeprom j) ≡ 0x100
   unfolding tidied
   piece-programming j t p q =
       let h = piece-some n bs flash eeprom j t in
@@ -108,13 +105,13 @@ module _ (n : Node) (bs flash eeprom : List ℕ) where
       (sym (ap (λ (x : UartStep). isProgramming (x .answer .node .mode)) (h .0)) ∙ q)
 
   -- one that is for others
-  pub piece-others : (j : ℕ) → pieceStep n bs flash eeprom .taken ≡ suc j → ForOthers n (frameAt j)
-      → LeftByOthersOnUart (tidied n) (frameAt j) flash eeprom left
+  pub piece-others : (j : ℕ) → pieceStep n bs flash eeprom .taken ≡ suc j → ForOthers n (frameAt n bs flash eeprom j)
+      → LeftByOthersOnUart (tidied n) (frameAt n bs flash eeprom j) flash eeprom left
   unfolding tidied
   piece-others j t o =
       let h = piece-some n bs flash eeprom j t in
       let m = nodeBefore n bs flash eeprom j in
-      let f = frameAt j in
+      let f = frameAt n bs flash eeprom j in
       subst (LeftByOthersOnUart (tidied n) f flash eeprom) (sym (h .0))
       (subst (λ (x : Node). LeftByOthersOnUart x f flash eeprom (uartStep m (getD bs j 0) flash eeprom)) (h .1)
       (uart-others m (getD bs j 0) flash eeprom (subst (λ (x : Node). ForOthers x f) (sym (h .1)) o)))

@@ -1,16 +1,18 @@
 -- UART in pieces (document 02, A1): "Take a piece, stop behind the byte that gives an outcome other than 10, or at the end, and report bytes
 -- taken, the outcome and any replies."
 use Prim.Native.Nat.{ℕ, _+_}
-use mathlib.Core.Bool.{Bool, _&&_, cond}
+use mathlib.Core.Path.{_≡_}
+use mathlib.Core.Bool.{Bool, false, _&&_, cond}
 use mathlib.Core.List.{List, [], _∷_}
 use lib.Dec.{eqb, leb}
-use lib.ListN.{length}
+use lib.ListN.{length, getD, take}
 use Rattle.memory_address.specs.Places.{full}
+use Rattle.frame_rules.specs.Wrapping.{innerOf}
 use Rattle.node_rules.specs.declared.Node.{Node}
 use Rattle.node_rules.specs.Record.{heldOf, tidied}
 use Rattle.node_rules.specs.Outcomes.{firstThat}
-use Rattle.node_rules.specs.Uart.{UartStep, uartAfter, heldOutcomes, silent}
-use Rattle.node_rules.specs.Runs.{state, bytesIn}
+use Rattle.node_rules.specs.Uart.{UartStep, uartAfter, heldWith, heldOutcomes, silent}
+use Rattle.node_rules.specs.Runs.{state, endOf, behindByte, bytesIn}
 use Rattle.node_piece_rules.specs.declared.PieceAnswer.{PieceAnswer}
 
 -- all that a piece leaves: how many of its bytes are taken, and what the last of them leaves
@@ -46,6 +48,13 @@ lastTaken s ts = record { taken = length ts; last = lastOf s ts }
 unfoldable pub pieceStep : Node → List ℕ → List ℕ → List ℕ → PieceStep
 pieceStep n bs flash eeprom = lastTaken (noByte n flash eeprom) (takenOf (bytesIn bs (state n flash eeprom)))
 
+-- the node before the byte of a piece that has j bytes in front of it, and the frame that this byte completes, or would complete
+abbrev pub nodeBefore : Node → List ℕ → List ℕ → List ℕ → ℕ → Node
+nodeBefore n bs flash eeprom j = endOf behindByte (state n flash eeprom) (bytesIn (take j bs) (state n flash eeprom)) .node
+
+abbrev pub frameAt : Node → List ℕ → List ℕ → List ℕ → ℕ → List ℕ
+frameAt n bs flash eeprom j = innerOf (heldWith (heldOf (tidied (nodeBefore n bs flash eeprom j))) (getD bs j 0))
+
 -- the outcomes other than 10, of steps one after the other
 abbrev pub butTens : List UartStep → List UartStep
 butTens [] = []
@@ -59,3 +68,13 @@ takenInAll (p ∷ ps) = p .taken + takenInAll ps
 abbrev pub lastsOf : List PieceStep → List UartStep
 lastsOf [] = []
 lastsOf (p ∷ ps) = p .last ∷ lastsOf ps
+
+-- "before the first 1, 2 or 3"
+abbrev pub NoneRefused : List PieceStep → Type 0
+NoneRefused [] = Unit {0}
+NoneRefused (p ∷ ps) = (takesNone (p .last .answer .number) ≡ false) × NoneRefused ps
+
+-- each piece has a byte
+abbrev pub NoneEmpty : List (List ℕ) → Type 0
+NoneEmpty [] = Unit {0}
+NoneEmpty (p ∷ ps) = (p ≡ [] → ⊥) × NoneEmpty ps
