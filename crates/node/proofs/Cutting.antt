@@ -8,7 +8,7 @@ use mathlib.Core.List.{List, [], _∷_}
 use Prim.Native.Nat.{ℕ, _+_, _≤_}
 use native.Mathlib.Omega.{arith}
 use lib.ListN.{length, take, drop, length-take, length-drop}
-use lib.Seq.{drop-drop}
+use lib.Seq.{take-nil, drop-drop}
 use Rattle.node_rules.specs.declared.Node.{Node}
 use Rattle.node_rules.specs.declared.UartAnswer.{UartAnswer}
 use Rattle.node_rules.specs.Record.{tidied}
@@ -18,17 +18,18 @@ use Rattle.node_rules.proofs.Agreement.{byte-tidied}
 use Rattle.node_piece_rules.specs.declared.PieceAnswer.{PieceAnswer}
 use Rattle.node_piece_rules.specs.Piece.{PieceStep, pieceAfter, takesNone, pieceStep, butTens, takenInAll, lastsOf, NoneRefused, NoneEmpty}
 use Rattle.node_piece_rules.proofs.Answering.{piece-refused, piece-few}
-use Rattle.node_piece_rules.proofs.Cutting.{tidiedState, Cut, cut-more, piece-gets-on}
+use Rattle.node_piece_rules.proofs.Cutting.{tidiedState, Cut, cut-more, piece-gets-on, EachHeard, heard-left, heard-piece}
+use Rattle.node.proofs.Pieces.{uart-piece-is-tidy}
 use Rattle.node.proofs.Calls.{uart-byte-said, uart-piece-said, bytes-said}
 use Rattle.node.specs.Calls.{UartByte, UartBytes, UartPiece, UartPieces, none, more}
 
 -- what is left is what wasn't taken
-left-over : {ps : List (List ℕ)} {rs left : List ℕ} {s end : State} {pieces : List PieceStep} → UartPieces ps rs s pieces left end
+pub left-over : {ps : List (List ℕ)} {rs left : List ℕ} {s end : State} {pieces : List PieceStep} → UartPieces ps rs s pieces left end
     → left ≡ drop (takenInAll pieces) rs
 left-over none = refl
 left-over (more {rs = rs} {r = r} {steps = steps} k c rest) = left-over rest ∙ drop-drop (takenInAll steps) (r .taken) rs
 
-cut : {ps : List (List ℕ)} {rs left : List ℕ} {s end : State} {pieces : List PieceStep} → UartPieces ps rs s pieces left end
+pub cut : {ps : List (List ℕ)} {rs left : List ℕ} {s end : State} {pieces : List PieceStep} → UartPieces ps rs s pieces left end
     → NoneRefused pieces → Cut rs s pieces end
 cut none h = (refl, refl)
 cut (more {rs = rs} {flash = flash} {eeprom = eeprom} {n = n} {steps = steps} {end = end} k c rest) h =
@@ -88,3 +89,35 @@ pieces-end (more {rs = rs} {flash = flash} {eeprom = eeprom} {n = n} {r = r} k c
     let is : r .taken ≡ pieceStep n p flash eeprom .taken = ap (λ (x : PieceStep). x .taken) e in
     let ih = pieces-end rest (h .1) (m .1) in
     omega (arith, one, few, is, ih, length-drop (r .taken) rs, length-take k rs)
+
+-- behind a call the record is tidy
+pub stays-tidy : {ps : List (List ℕ)} {rs left : List ℕ} {s end : State} {pieces : List PieceStep} → UartPieces ps rs s pieces left end
+    → tidied (s .node) ≡ s .node → tidied (end .node) ≡ end .node
+stays-tidy none h = h
+stays-tidy (more k c rest) h = stays-tidy rest (uart-piece-is-tidy c)
+
+-- ---- bytes of which none would be refused
+
+-- pieces that each have a byte: none is refused
+pub heard-throughout : {ps : List (List ℕ)} {rs left : List ℕ} {s end : State} {pieces : List PieceStep}
+    → UartPieces ps rs s pieces left end → NoneEmpty ps → EachHeard (bytesIn rs s) → NoneRefused pieces
+heard-throughout none m h = tt
+heard-throughout (more {rs = rs} {flash = flash} {eeprom = eeprom} {n = n} {r = r} k c rest) m h =
+    let e = uart-piece-said c in (
+      ap (λ (x : PieceStep). takesNone (x .last .answer .number)) e
+          ∙ heard-piece n (take k rs) rs flash eeprom (λ z. m .0 (ap (take k) z ∙ take-nil k)) h,
+      heard-throughout rest (m .1)
+          (subst (λ (x : PieceStep). EachHeard (bytesIn (drop (x .taken) rs) (behindByte (x .last)))) (sym e) (heard-left n k rs flash eeprom h)),
+    )
+
+-- and where bytes are left the next piece isn't refused, be it empty
+pub heard-next : {ps : List (List ℕ)} {rs left : List ℕ} {s end : State} {pieces : List PieceStep} → UartPieces ps rs s pieces left end
+    → EachHeard (bytesIn rs s) → (left ≡ [] → ⊥) → {p flash′ eeprom′ : List ℕ} {r : PieceAnswer}
+    → UartPiece (end .node) p (end .flash) (end .eeprom) r flash′ eeprom′ → takesNone (r .answer .number) ≡ false
+heard-next (none {rs = rs} {s = s}) h l {p} c =
+    ap (λ (x : PieceStep). takesNone (x .last .answer .number)) (uart-piece-said c)
+    ∙ heard-piece (s .node) p rs (s .flash) (s .eeprom) l h
+heard-next (more {rs = rs} {flash = flash} {eeprom = eeprom} {n = n} k d rest) h l c =
+    heard-next rest
+    (subst (λ (x : PieceStep). EachHeard (bytesIn (drop (x .taken) rs) (behindByte (x .last)))) (sym (uart-piece-said d))
+    (heard-left n k rs flash eeprom h)) l c

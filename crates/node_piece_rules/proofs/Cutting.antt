@@ -3,13 +3,14 @@
 -- what stands behind those bytes, tidied, to which the next byte does what it does to the untidied. What a frame asks, and what 11 leaves,
 -- are not looked at.
 -- Assumes nothing.
-use mathlib.Core.Path.{_≡_, _∙_, refl, sym, ap}
-use mathlib.Core.Bool.{Bool, true, false, cond}
+use mathlib.Core.Path.{_≡_, _∙_, refl, sym, ap, subst}
+use mathlib.Core.Bool.{Bool, true, false, cond, false≢true}
 use mathlib.Core.List.{List, [], _∷_, _++_}
+use mathlib.Core.Logic.{⊎-elim}
 use Prim.Native.Nat.{ℕ, _+_, _≤_}
 use native.Mathlib.Omega.{arith}
 use lib.Dec.{eqb}
-use lib.ListN.{take, drop, length-take}
+use lib.ListN.{take, drop, length-take, take-append-drop}
 use lib.Seq.{take-take, take-add}
 use Rattle.node_rules.specs.declared.Node.{Node}
 use Rattle.node_rules.specs.Record.{tidied}
@@ -21,9 +22,9 @@ use Rattle.node_rules.proofs.Tidying.{tidy-twice}
 use Rattle.node_rules.proofs.StaysTidy.{uart-tidy}
 use Rattle.node_piece_rules.specs.Piece.{PieceStep, takesNone, takenOf, noByte, lastOf, pieceStep, butTens, takenInAll, lastsOf}
 use Rattle.node_piece_rules.proofs.Stopping.{by-taken}
-use Rattle.node_piece_rules.proofs.Opening.{open-waits}
+use Rattle.node_piece_rules.proofs.Opening.{refused-or-open, open-waits}
 use Rattle.node_piece_rules.proofs.Taking.{taken-bytes}
-use Rattle.node_piece_rules.proofs.Answering.{piece-few, piece-by, piece-heard, open-takes-one}
+use Rattle.node_piece_rules.proofs.Answering.{piece-few, piece-by, open-never-refuses, piece-heard, open-takes-one}
 
 -- ---- the outcomes other than 10
 
@@ -163,3 +164,39 @@ pub piece-gets-on : (n : Node) (p flash eeprom : List ℕ) → (p ≡ [] → ⊥
     → takesNone (pieceStep n p flash eeprom .last .answer .number) ≡ false → 1 ≤ pieceStep n p flash eeprom .taken
 piece-gets-on n [] flash eeprom m f = absurd (m refl)
 piece-gets-on n (b ∷ p) flash eeprom m f = open-takes-one n b p flash eeprom (piece-heard n (b ∷ p) flash eeprom f)
+
+-- ---- bytes of which none would be refused
+
+abbrev pub EachHeard : List UartStep → Type 0
+EachHeard [] = Unit {0}
+EachHeard (s ∷ ss) = (takesNone (s .answer .number) ≡ false) × EachHeard ss
+
+heard-behind : (xs ys : List UartStep) → EachHeard (xs ++ ys) → EachHeard ys
+heard-behind [] ys h = h
+heard-behind (x ∷ xs) ys h = heard-behind xs ys (h .1)
+
+-- what is left behind a piece would be heard too
+pub heard-left : (n : Node) (k : ℕ) (rs flash eeprom : List ℕ) → EachHeard (bytesIn rs (state n flash eeprom))
+    → EachHeard
+    (bytesIn (drop (pieceStep n (take k rs) flash eeprom .taken) rs) (behindByte (pieceStep n (take k rs) flash eeprom .last)))
+heard-left n k rs flash eeprom h =
+    let s = state n flash eeprom in
+    let p = take k rs in
+    let t = pieceStep n p flash eeprom .taken in
+    let xs = take t p in
+    let e = endOf behindByte s (bytesIn xs s) in
+    let step : ℕ → State → UartStep = λ b z. uartStep (z .node) b (z .flash) (z .eeprom) in
+    let all : bytesIn rs s ≡ bytesIn xs s ++ bytesIn (drop t rs) e =
+    ap (λ (zs : List ℕ). bytesIn zs s)
+    (sym (take-append-drop t rs) ∙ ap (λ (zs : List ℕ). zs ++ drop t rs) (sym (takes-of n k rs flash eeprom)))
+    ∙ steps-append step behindByte xs (drop t rs) s in
+    subst EachHeard (sym (ap (bytesIn (drop t rs)) (behind-piece n p flash eeprom) ∙ from-tidied (drop t rs) e))
+    (heard-behind (bytesIn xs s) (bytesIn (drop t rs) e) (subst EachHeard all h))
+
+-- where the next byte would be heard no piece is refused
+pub heard-piece : (n : Node) (p rs flash eeprom : List ℕ) → (rs ≡ [] → ⊥) → EachHeard (bytesIn rs (state n flash eeprom))
+    → takesNone (pieceStep n p flash eeprom .last .answer .number) ≡ false
+heard-piece n p [] flash eeprom m h = absurd (m refl)
+heard-piece n p (b ∷ rs) flash eeprom m h =
+    ⊎-elim (λ r. absurd (false≢true (sym (h .0) ∙ ap (λ (x : UartStep). takesNone (x .answer .number)) (r .1 b) ∙ r .0)))
+    (λ o. open-never-refuses n p flash eeprom o) (refused-or-open n flash eeprom)

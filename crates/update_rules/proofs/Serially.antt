@@ -158,7 +158,7 @@ mirrors-zero : (fs : List (List ℕ)) → AllDone (map mirrored fs ++ (nothingTo
 mirrors-zero [] = (refl, tt)
 mirrors-zero (f ∷ fs) = (refl, mirrors-zero fs)
 
-answers-zero : (r : Recipe) → AllDone (answersOf r)
+pub answers-zero : (r : Recipe) → AllDone (answersOf r)
 unfolding answersOf
 answers-zero r = mirrors-zero (itemsFrames (r .moduleNumber) (r .groupNumber) (r .items))
 
