@@ -6,3 +6,4 @@ pub mod AnyCalls
 pub mod Whole
 pub mod SerialCalls
 pub mod Afterwards
+pub mod PieceCalls
