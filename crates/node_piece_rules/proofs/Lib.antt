@@ -4,3 +4,4 @@ pub mod Taking
 pub mod Answering
 pub mod Cutting
 pub mod Spoiling
+pub mod Witnesses

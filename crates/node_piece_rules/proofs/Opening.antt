@@ -40,19 +40,6 @@ module _ (n : Node) (flash eeprom : List ℕ) where
   abbrev pub Opened : Type 0
   Opened = (full flash eeprom ≡ true) × (isClosed (tidied n .choices .pin) ≡ false) × (isDeaf (tidied n .mode) ≡ false)
 
-  -- one or the other
-  pub refused-or-open : Refused ⊎ Opened
-  unfolding uartStep done
-  refused-or-open = go (full flash eeprom) refl (isClosed (tidied n .choices .pin)) refl (isDeaf (tidied n .mode)) refl
-    where
-      go : (x : Bool) → full flash eeprom ≡ x → (y : Bool) → isClosed (tidied n .choices .pin) ≡ y → (z : Bool)
-          → isDeaf (tidied n .mode) ≡ z → Refused ⊎ Opened
-      go false f y c z d = inl (rw f refl, λ b. rw f (ap (λ (x : Node). silent 1 x flash eeprom) (still-held n)))
-      go true f true c z d = inl (rw (f, c) refl, λ b. rw (f, c) (ap (λ (x : Node). silent 2 x flash eeprom) (still-held n)))
-      go true f false c true d =
-          inl (rw (f, c, d) refl, λ b. rw (f, c, d) (ap (λ (x : Node). silent 3 x flash eeprom) (still-held n)))
-      go true f false c false d = inr (f, c, d)
-
   module _ (o : Opened) where
     -- what is left of the table
     abbrev rest : List ℕ → List Outcome
@@ -76,6 +63,19 @@ module _ (n : Node) (flash eeprom : List ℕ) where
         let Q : ℕ → Type 0 = λ k. takesNone k ≡ false in
         subst Q (sym (uart-number n b flash eeprom ∙ behind-three ys))
         (first-among Q (rest ys) (refl, (refl, frame-among Q (tidied n) (innerOf ys) refl refl refl refl refl refl)) refl)
+
+  -- one or the other
+  pub refused-or-open : Refused ⊎ Opened
+  unfolding uartStep done
+  refused-or-open = go (full flash eeprom) refl (isClosed (tidied n .choices .pin)) refl (isDeaf (tidied n .mode)) refl
+    where
+      go : (x : Bool) → full flash eeprom ≡ x → (y : Bool) → isClosed (tidied n .choices .pin) ≡ y → (z : Bool)
+          → isDeaf (tidied n .mode) ≡ z → Refused ⊎ Opened
+      go false f y c z d = inl (rw f refl, λ b. rw f (ap (λ (x : Node). silent 1 x flash eeprom) (still-held n)))
+      go true f true c z d = inl (rw (f, c) refl, λ b. rw (f, c) (ap (λ (x : Node). silent 2 x flash eeprom) (still-held n)))
+      go true f false c true d =
+          inl (rw (f, c, d) refl, λ b. rw (f, c, d) (ap (λ (x : Node). silent 3 x flash eeprom) (still-held n)))
+      go true f false c false d = inr (f, c, d)
 
 -- open in the paper's words: both lengths, pin and mode
 pub opens : (n : Node) (flash eeprom : List ℕ) → length flash ≡ 65536 → length eeprom ≡ 1024 → n .choices .pin ≡ CanAndUart
