@@ -52,7 +52,7 @@ pub fn page(repo: &Repo, cited: &BTreeSet<Citation>) -> Result<String, String> {
         questions.below.extend(part.below);
     }
     row(&mut out, repo, "questions 1 to 3", &questions);
-    row(&mut out, repo, "with the samples and examples", &all);
+    row(&mut out, repo, "with the requests, samples and examples", &all);
     border(repo, &all.below)?;
     out.push_str(&format!(
         "\nOf the lines that questions 1 to 3 rest on: {}.\n",
@@ -86,10 +86,13 @@ fn border(repo: &Repo, below: &BTreeSet<Thing>) -> Result<(), String> {
             let inside = is_spec(file) && !file.contains("/specs/Internal");
             let name = entry(repo, &thing, false).map(|e| e.name).unwrap_or_default();
             if rested_on && !inside {
-                wrong.push(format!("{file}: {name}: a cited statement rests on it, and it is not in specs/"));
+                wrong.push(format!(
+                    "{file}: {name}: a cited statement rests on it, and it is not in specs/"
+                ));
             }
             if inside && !rested_on {
-                wrong.push(format!("{file}: {name}: in specs/, and no cited statement rests on it"));
+                wrong
+                    .push(format!("{file}: {name}: in specs/, and no cited statement rests on it"));
             }
         }
     }

@@ -1,5 +1,6 @@
-//! docs/INDEX.md: every sentence of document 01 beside what answers it. Checked are its names, the quotations in the comments of
-//! crates/, and, where the document is at hand, that no sentence of it is missing.
+//! docs/INDEX.md: every sentence of document 01 beside what answers it; docs/AMENDMENTS.md: the same of each request that has landed.
+//! Checked are their names, the quotations in the comments of crates/, and, where a document is at hand, that no sentence of it, or of the
+//! request, is missing.
 
 use crate::answers::theorems;
 use crate::antt::Kind;
@@ -14,12 +15,13 @@ use std::path::Path;
 pub fn check(
     repo: &Repo,
     root: &Path,
-    pages: [&str; 3],
+    pages: [&str; 4],
     documents: &Path,
 ) -> Result<String, Vec<String>> {
-    let [index, sources, protocol] = pages;
-    let mut faults = names(repo, root, index);
-    let quoted = Quoted::of(&[index, sources]).with(protocol);
+    let [index, amendments, sources, protocol] = pages;
+    let mut faults = names(repo, root, "docs/INDEX.md", index);
+    faults.extend(names(repo, root, "docs/AMENDMENTS.md", amendments));
+    let quoted = Quoted::of(&[index, amendments, sources]).with(protocol);
     let mut count = 0;
     for (file, text) in repo.texts.iter().filter(|(f, _)| !is_proof(f)) {
         let mark = if file.ends_with(".rt") { "//" } else { "--" };
@@ -32,7 +34,7 @@ pub fn check(
             }
         }
     }
-    let mut said = vec![format!("{count} quotations in comments: each is in docs/INDEX.md, docs/SOURCES.md or second/PROTOCOL.md")];
+    let mut said = vec![format!("{count} quotations in comments: each is in docs/INDEX.md, docs/AMENDMENTS.md, docs/SOURCES.md or second/PROTOCOL.md")];
     for source in listed(sources) {
         let Ok(bytes) = std::fs::read(documents.join(&source.file)) else {
             said.push(format!("{}: not at hand, not looked at", source.file));
@@ -52,6 +54,11 @@ pub fn check(
             let lacking = sentences(&text).into_iter().filter(|s| !has.has(s));
             faults.extend(lacking.map(|s| format!("docs/INDEX.md lacks of {}: {s}", source.file)));
         }
+        let has = Quoted::of(&[amendments]);
+        for request in requests(amendments) {
+            let lacking = asked(&text, &request).into_iter().filter(|s| !has.has(s));
+            faults.extend(lacking.map(|s| format!("docs/AMENDMENTS.md lacks of {request}: {s}")));
+        }
         let whole = Quoted::default().with(&text);
         let made_up = fragments(sources, &source.name).into_iter().filter(|f| !whole.has(f));
         faults.extend(
@@ -66,15 +73,15 @@ pub fn check(
     }
 }
 
-/// What is wrong with the names that the index quotes: one that no file has, or that is no theorem, no definition or no code though
+/// What is wrong with the names that a page quotes: one that no file has, or that is no theorem, no definition or no code though
 /// it stands in that column.
-fn names(repo: &Repo, root: &Path, index: &str) -> Vec<String> {
+fn names(repo: &Repo, root: &Path, page: &str, text: &str) -> Vec<String> {
     let known = Known::of(repo);
     let mut faults = Vec::new();
-    for part in parts(index) {
+    for part in parts(text) {
         let Part::Table { header, rows } = part else { continue };
         for row in rows {
-            let at = format!("docs/INDEX.md:{}", row.line);
+            let at = format!("{page}:{}", row.line);
             if row.cells.len() != header.len() {
                 faults.push(format!(
                     "{at}: {} cells below {} columns",
@@ -147,6 +154,25 @@ fn listed(sources: &str) -> Vec<Source> {
         }
     }
     found
+}
+
+/// The requests that a page has a section of, by their short names: of "## A1. UART in pieces" it is "A1".
+fn requests(page: &str) -> Vec<String> {
+    let titles = parts(page).into_iter().filter_map(|p| match p {
+        Part::Heading(title) => Some(title),
+        _ => None,
+    });
+    titles.filter_map(|t| Some(t.strip_prefix("## ")?.split_once(". ")?.0.to_string())).collect()
+}
+
+/// The sentences of a request in a document: those of the paragraph that begins with its name.
+fn asked(text: &str, request: &str) -> Vec<String> {
+    let begin = format!("**{request}. ");
+    let own = parts(text).into_iter().filter_map(|p| match p {
+        Part::Paragraph { text, .. } if text.starts_with(&begin) => Some(text),
+        _ => None,
+    });
+    own.flat_map(|p| sentences(&p.replace("**", ""))).collect()
 }
 
 /// The fragments that docs/SOURCES.md has of a document.
@@ -304,10 +330,23 @@ mod tests {
         repo.add("x/specs/S.antt".into(), "abbrev pub one : ℕ\none = 1\n".into());
         repo.add("x/proofs/P.antt".into(), "pub holds : one ≡ 1\nholds = refl\n".into());
         let head = "| Sentence | Definition | Code | Theorem |\n|---|---|---|---|\n";
-        let faults = |row: &str| names(&repo, Path::new("/nowhere"), &format!("{head}{row}")).len();
+        let faults =
+            |row: &str| names(&repo, Path::new("/nowhere"), "page", &format!("{head}{row}")).len();
         assert_eq!(faults("| s | `one` | `f` | `holds` |\n"), 0);
         assert_eq!(faults("| s | `holds` | `one` | `f` |\n"), 3);
         assert_eq!(faults("| s | `two` | | |\n"), 1);
+    }
+
+    #[test]
+    fn a_request_is_quoted_whole() {
+        let page =
+            "# T\n\n## A1. One thing\n\n| Sentence | D |\n|---|---|\n| Do it. | x |\n\n## Other\n";
+        let document = "# R\n\n**A1. One thing.** Do it. Do that.\n\n**A2. Another.** No.\n";
+        assert_eq!(requests(page), ["A1"]);
+        let has = Quoted::of(&[page]);
+        let lacking: Vec<String> =
+            asked(document, "A1").into_iter().filter(|s| !has.has(s)).collect();
+        assert_eq!(lacking, ["Do that."]);
     }
 
     #[test]

@@ -28,10 +28,10 @@ fn run(command: &str, documents: &str) -> Result<String, String> {
     let root = Path::new(".");
     let repo = repo::Repo::read(root)?;
     if command == "index" {
-        let (index, sources, protocol) =
-            (page("docs/INDEX.md")?, page("docs/SOURCES.md")?, page("second/PROTOCOL.md")?);
-        let checked =
-            index::check(&repo, root, [&index, &sources, &protocol], Path::new(documents));
+        let (index, amendments) = (page("docs/INDEX.md")?, page("docs/AMENDMENTS.md")?);
+        let (sources, protocol) = (page("docs/SOURCES.md")?, page("second/PROTOCOL.md")?);
+        let pages = [&index[..], &amendments, &sources, &protocol];
+        let checked = index::check(&repo, root, pages, Path::new(documents));
         return checked.map_err(|faults| faults.join("\n"));
     }
     let text = page("docs/ANSWERS.md")?;

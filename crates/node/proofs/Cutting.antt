@@ -59,16 +59,16 @@ module _ {ps : List (List ℕ)} {rs left : List ℕ} {s end end′ : State} {pie
 
   -- at a 1, 2 or 3 no byte is taken, so that what is left stays what wasn't taken; and byte by byte the next one, whatever it is, gets that
   -- answer
-  pub cutting-refused : {p flash′ eeprom′ flash″ eeprom″ : List ℕ} {r : PieceAnswer} {b : ℕ} {a : UartAnswer}
+  pub cutting-refused : {p flash′ eeprom′ flash₁ eeprom₁ : List ℕ} {r : PieceAnswer} {b : ℕ} {a : UartAnswer}
       → UartPiece (end .node) p (end .flash) (end .eeprom) r flash′ eeprom′ → takesNone (r .answer .number) ≡ true
-      → UartByte (end′ .node) b (end′ .flash) (end′ .eeprom) a flash″ eeprom″
-      → (r .taken ≡ 0) × (r .answer ≡ a) × (flash′ ≡ flash″) × (eeprom′ ≡ eeprom″)
-  cutting-refused {p} {flash′} {eeprom′} {flash″} {eeprom″} {r} {b} {a} c t d =
+      → UartByte (end′ .node) b (end′ .flash) (end′ .eeprom) a flash₁ eeprom₁
+      → (r .taken ≡ 0) × (r .answer ≡ a) × (flash′ ≡ flash₁) × (eeprom′ ≡ eeprom₁)
+  cutting-refused {p} {flash′} {eeprom′} {flash₁} {eeprom₁} {r} {b} {a} c t d =
       let e = uart-piece-said c in
       let next : State → UartStep = λ z. uartStep (z .node) b (z .flash) (z .eeprom) in
       let h = piece-refused (end .node) p (end .flash) (end .eeprom)
       (sym (ap (λ (x : PieceStep). takesNone (x .last .answer .number)) e) ∙ t) in
-      let both : uartAfter (r .answer) flash′ eeprom′ ≡ uartAfter a flash″ eeprom″ =
+      let both : uartAfter (r .answer) flash′ eeprom′ ≡ uartAfter a flash₁ eeprom₁ =
       ap (λ (x : PieceStep). x .last) e ∙ sym (h .1 b) ∙ byte-tidied (end .node) b (end .flash) (end .eeprom) ∙ ap next same
       ∙ sym (byte-tidied (end′ .node) b (end′ .flash) (end′ .eeprom)) ∙ sym (uart-byte-said d) in (
         ap (λ (x : PieceStep). x .taken) e ∙ h .0,
