@@ -55,15 +55,24 @@ fn done(count: usize, output: &[u8], h: Handed, flash: &[u8], eeprom: &[u8]) -> 
     }
 }
 
-// The frames of an output, handed to a node over prepared memories, one by one.
-fn hand_over(h: Header, count: usize, output: &[u8], flash: &mut [u8], eeprom: &mut [u8]) -> Line {
-    let first = started(h, flash, eeprom);
-    let last = hand::frames(first, h.port, output, count, flash, eeprom);
-    done(count, output, last, flash, eeprom)
+// The frames of an output, handed to this node: in pieces where the header says how long those are on UART, else one by one.
+fn frames(
+    first: Handed,
+    h: Header,
+    count: usize,
+    output: &[u8],
+    serial: &mut [u8],
+    flash: &mut [u8],
+    eeprom: &mut [u8],
+) -> Handed {
+    if h.port != 0 && h.piece != 0 {
+        return pieces::frames(first, h.piece, output, count, serial, flash, eeprom);
+    }
+    hand::frames(first, h.port, output, count, flash, eeprom)
 }
 
-// The same in pieces: the bytes of all the wrapped frames stand in `serial`, one behind the other.
-fn hand_pieces(
+// The frames of an output, handed to a node over prepared memories.
+fn hand_over(
     h: Header,
     count: usize,
     output: &[u8],
@@ -71,13 +80,12 @@ fn hand_pieces(
     flash: &mut [u8],
     eeprom: &mut [u8],
 ) -> Line {
-    pieces::wrap_all(output, count, serial);
     let first = started(h, flash, eeprom);
-    let bytes = slices::part(serial, 0, pieces::serial_length(count));
-    let last = pieces::pieces(first, h.piece, bytes, flash, eeprom);
+    let last = frames(first, h, count, output, serial, flash, eeprom);
     done(count, output, last, flash, eeprom)
 }
 
+// The same over memories that are still to be prepared.
 fn apply(
     h: Header,
     count: usize,
@@ -87,12 +95,7 @@ fn apply(
     eeprom: &mut [u8],
 ) -> Line {
     prepare(h, flash, eeprom);
-    if h.port != 0 {
-        if h.piece != 0 {
-            return hand_pieces(h, count, output, serial, flash, eeprom);
-        }
-    }
-    hand_over(h, count, output, flash, eeprom)
+    hand_over(h, count, output, serial, flash, eeprom)
 }
 
 // The line of a recipe, with the output that is lent to its translation, and room for its frames as they go out on UART.

@@ -20,10 +20,11 @@ fn with_answer(h: Handed, a: Answer) -> Handed {
     }
 }
 
-fn with_uart_answer(h: Handed, a: UartAnswer) -> Handed {
+// After an answer on UART: what stands before its replies, and those.
+pub fn with_uart_answer(h: Handed, first: &[u8], a: UartAnswer) -> Handed {
     let replies = a.replies;
     let node = a.node;
-    let head = run_digest::with_bytes(h.answers, &[a.number, a.count]);
+    let head = run_digest::with_bytes(h.answers, first);
     Handed {
         node,
         answers: run_digest::with_bytes(head, &replies),
@@ -40,7 +41,7 @@ fn on_can(h: Handed, frame: &[u8], flash: &mut [u8], eeprom: &mut [u8]) -> Hande
 fn byte_on_uart(h: Handed, byte: u8, flash: &mut [u8], eeprom: &mut [u8]) -> Handed {
     let node = h.node;
     let a = node::uart_byte(node, byte, flash, eeprom);
-    with_uart_answer(h, a)
+    with_uart_answer(h, &[a.number, a.count], a)
 }
 
 // The 15 bytes of a wrapped frame, one by one.

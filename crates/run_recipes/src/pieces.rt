@@ -1,86 +1,62 @@
 // Frames handed to a node on UART in pieces, and the digest of its answers.
+use crate::hand;
 use crate::hand::Handed;
 use crate::slices;
-use node_piece::PieceAnswer;
+use node_piece_rules::PieceAnswer;
 
-// How many bytes so many frames are on UART. No recipe has more than 36,829.
-pub fn serial_length(count: usize) -> usize {
-    15 * slices::least(count, 36_829)
-}
-
-// One frame wrapped, at its place.
-fn wrap_one(output: &[u8], i: usize, serial: &mut [u8]) {
-    if i < 36_829 {
-        let frame = slices::part(output, 12 * i, 12);
-        frame_uart::wrap(frame, slices::middle(serial, 15 * i, 15));
+// A frame wrapped, from `at` on.
+fn wrap_at(frame: &[u8], serial: &mut [u8], at: usize) {
+    if at < serial.len() {
+        frame_uart::wrap(frame, slices::lent(&mut serial[at..], 15));
     }
 }
 
-// The first `count` frames of an output, wrapped one behind the other.
-pub fn wrap_all(output: &[u8], count: usize, serial: &mut [u8]) {
+// The first `count` frames of an output, wrapped one behind the other; answers how many bytes those are. No recipe has more than 36,829.
+fn wrap_all(output: &[u8], count: usize, serial: &mut [u8]) -> usize {
+    let most = slices::least(count, 36_829);
     let mut i: usize = 0;
-    while i < count {
-        wrap_one(output, i, serial);
+    while i < most {
+        wrap_at(slices::part(output, 12 * i, 12), serial, 15 * i);
         i += 1;
     }
+    15 * most
 }
 
-// What is handed over, and how many bytes of it are taken so far; where none is, the delivery is over.
-struct Turn {
-    handed: Handed,
-    taken: usize,
-    over: bool,
-}
-
+// After the answer to a piece: its number, the bytes taken, its count of replies, and the replies.
 fn with_piece_answer(h: Handed, p: PieceAnswer) -> Handed {
     let a = p.answer;
-    let replies = a.replies;
-    let node = a.node;
     let high = (p.taken / 256 % 256) as u8;
     let low = (p.taken % 256) as u8;
-    let head = run_digest::with_bytes(h.answers, &[a.number, high, low, a.count]);
-    Handed {
-        node,
-        answers: run_digest::with_bytes(head, &replies),
-    }
+    hand::with_uart_answer(h, &[a.number, high, low, a.count], a)
 }
 
-// One piece.
-fn piece(t: Turn, bytes: &[u8], flash: &mut [u8], eeprom: &mut [u8]) -> Turn {
-    let h = t.handed;
-    let node = h.node;
-    let p = node::uart_piece(node, bytes, flash, eeprom);
-    let handed = with_piece_answer(h, p);
-    Turn {
-        handed,
-        taken: slices::plus(t.taken, p.taken),
-        over: p.taken == 0,
+// Pieces of so many bytes of what is left, until none is left or none is taken.
+fn pieces(h: Handed, size: usize, bytes: &[u8], flash: &mut [u8], eeprom: &mut [u8]) -> Handed {
+    let mut now = h;
+    let mut done: usize = 0;
+    while done < bytes.len() {
+        let node = now.node;
+        let p = node::uart_piece(node, slices::part(bytes, done, size), flash, eeprom);
+        now = with_piece_answer(now, p);
+        let taken = slices::least(p.taken, bytes.len() - done);
+        if taken == 0 {
+            return now;
+        }
+        done += taken;
     }
+    now
 }
 
-// Pieces of so many bytes of what is left, until none is left or none is taken. Each takes one at least, so there are not more than bytes.
-pub fn pieces(
+// The first `count` frames of an output, in pieces of so many bytes. Their bytes stand in `serial` meanwhile.
+pub fn frames(
     h: Handed,
-    length: usize,
-    bytes: &[u8],
+    size: usize,
+    output: &[u8],
+    count: usize,
+    serial: &mut [u8],
     flash: &mut [u8],
     eeprom: &mut [u8],
 ) -> Handed {
-    let mut t = Turn {
-        handed: h,
-        taken: 0,
-        over: false,
-    };
-    let mut i: usize = 0;
-    while i < bytes.len() {
-        if t.over {
-            return t.handed;
-        }
-        if bytes.len() <= t.taken {
-            return t.handed;
-        }
-        t = piece(t, slices::part(bytes, t.taken, length), flash, eeprom);
-        i += 1;
-    }
-    t.handed
+    let end = wrap_all(output, count, serial);
+    pieces(h, size, slices::part(serial, 0, end), flash, eeprom)
 }

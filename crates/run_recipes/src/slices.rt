@@ -28,28 +28,6 @@ pub fn lent(s: &mut [u8], n: usize) -> &mut [u8] {
     &mut s[..cells]
 }
 
-// The n bytes from `from` on to be written, or as many as there are.
-pub fn middle(s: &mut [u8], from: usize, n: usize) -> &mut [u8] {
-    if s.len() < from {
-        return &mut s[..0];
-    }
-    if s.len() - from < n {
-        return &mut s[from..];
-    }
-    &mut s[from..from + n]
-}
-
-// The sum, or the first number where that would be more than a place can be.
-pub fn plus(a: usize, b: usize) -> usize {
-    if 0xFFFFFFFF < a {
-        return a;
-    }
-    if 0xFFFFFFFF < b {
-        return a;
-    }
-    a + b
-}
-
 // The cell at i becomes v, where there is one.
 pub fn put(s: &mut [u8], i: usize, v: u8) {
     if i < s.len() {

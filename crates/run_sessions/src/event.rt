@@ -1,6 +1,7 @@
 // One event: the record is taken apart, the call is made, and its answer written down.
 use crate::closing;
 use crate::handed;
+use crate::pieces;
 use crate::session;
 use crate::session::CAN_FRAMES;
 use crate::session::RESTARTS;
@@ -230,6 +231,9 @@ pub fn event(s: Session, rec: &[u8], flash: &mut [u8], eeprom: &mut [u8]) -> Ses
     }
     if kind == 0x0E {
         return rule(s, rec);
+    }
+    if kind == 0x11 {
+        return pieces::record(s, rec, flash, eeprom);
     }
     converted(s, kind, rec)
 }

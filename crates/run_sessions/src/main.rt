@@ -3,6 +3,7 @@
 mod closing;
 mod event;
 mod handed;
+mod pieces;
 mod session;
 mod slices;
 mod telling;

@@ -2,7 +2,7 @@
 use node_rules::Node;
 
 // A session: its number, the events that had an answer, their digest, the lines that are still printed in full, how many cells of each
-// memory are lent, the node, how often restart, CAN frame and UART byte gave each number, and whether the stream has ended.
+// memory are lent, the node, how often restart, CAN frame, UART byte and UART piece gave each number, and whether the stream has ended.
 pub struct Session {
     pub number: u64,
     pub events: u64,
@@ -15,15 +15,17 @@ pub struct Session {
     pub done: bool,
 }
 
-// Where the counts of restart, of CAN frames and of UART bytes begin.
+// Where the counts of restart, of CAN frames, of UART bytes and of UART pieces begin.
 pub const RESTARTS: usize = 0;
 
 pub const CAN_FRAMES: usize = 2;
 
 pub const UART_BYTES: usize = 14;
 
+pub const UART_PIECES: usize = 26;
+
 // How many counts there are.
-pub const COUNTS: usize = 26;
+pub const COUNTS: usize = 38;
 
 // Before the first session.
 pub fn start() -> Session {

@@ -13,7 +13,7 @@ pub fn part(s: &[u8], from: usize, n: usize) -> &[u8] {
 }
 
 // The smaller number.
-fn least(a: usize, b: usize) -> usize
+pub fn least(a: usize, b: usize) -> usize
     ensures { λ r. ⌜ r ≤ b ⌝ }
 {
     if a < b {

@@ -9,11 +9,12 @@ use Rattle.run_recipes.proofs.stream.Statement.{statement}
 use Rattle.run_recipes.proofs.stream.Tie as tie
 
 abbrev Inv-loop : tie.InvT-loop
-Inv-loop space₀ output₀ flash₀ eeprom₀ at₀ space output flash eeprom at = (length space ≡ length space₀) ×
-    (length output ≡ length output₀) × (length flash ≡ length flash₀) × (length eeprom ≡ length eeprom₀)
+Inv-loop space₀ output₀ serial₀ flash₀ eeprom₀ at₀ space output serial flash eeprom at = (length space ≡ length space₀) ×
+    (length output ≡ length output₀) × (length serial ≡ length serial₀) × (length flash ≡ length flash₀) ×
+    (length eeprom ≡ length eeprom₀)
 
 abbrev μ-loop : tie.MeasureT-loop
-μ-loop space₀ output₀ flash₀ eeprom₀ at₀ space output flash eeprom at = 0xFFFFFFFE - at
+μ-loop space₀ output₀ serial₀ flash₀ eeprom₀ at₀ space output serial flash eeprom at = 0xFFFFFFFE - at
 
 loop-holds : tie.Need-loop-holds Inv-loop μ-loop
 loop-holds c = search needs
@@ -39,6 +40,9 @@ same-length-3 c = search needs
 same-length-4 : tie.Need-same-length-4 Inv-loop μ-loop
 same-length-4 c = search needs
 
+same-length-5 : tie.Need-same-length-5 Inv-loop μ-loop
+same-length-5 c = search needs
+
 returns : tie.Need-returns Inv-loop μ-loop
 returns c = search needs
 
@@ -48,9 +52,6 @@ loop-less c = omega arith
 loop-again : tie.Need-loop-again Inv-loop μ-loop
 loop-again c = search needs
 
-same-length-5 : tie.Need-same-length-5 Inv-loop μ-loop
-same-length-5 c = search needs
-
 same-length-6 : tie.Need-same-length-6 Inv-loop μ-loop
 same-length-6 c = search needs
 
@@ -59,6 +60,12 @@ same-length-7 c = search needs
 
 same-length-8 : tie.Need-same-length-8 Inv-loop μ-loop
 same-length-8 c = search needs
+
+same-length-9 : tie.Need-same-length-9 Inv-loop μ-loop
+same-length-9 c = search needs
+
+same-length-10 : tie.Need-same-length-10 Inv-loop μ-loop
+same-length-10 c = search needs
 
 returns-2 : tie.Need-returns-2 Inv-loop μ-loop
 returns-2 c = search needs
@@ -77,11 +84,13 @@ stream-spec =
     same-length-2
     same-length-3
     same-length-4
+    same-length-5
     returns
     loop-less
     loop-again
-    same-length-5
     same-length-6
     same-length-7
     same-length-8
+    same-length-9
+    same-length-10
     returns-2)
