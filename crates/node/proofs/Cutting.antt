@@ -1,6 +1,6 @@
 -- "However the bytes are cut, with leftovers handed in again, the outcomes other than 10, replies, memories and end node (tidied) are those
--- of byte by byte, before the first 1, 2 or 3", over the real contracts of both calls (Calls.antt): by induction over the run of pieces, with
--- the law of one piece more (`cut-more`, crates/node_piece_rules). What 11 leaves is not looked at.
+-- of byte by byte, before the first 1, 2 or 3", over the real contracts of both calls (Calls.antt): by induction over the run of pieces,
+-- with the law of one piece more (`cut-more`, crates/node_piece_rules). What 11 leaves is not looked at.
 -- Assumes nothing.
 use mathlib.Core.Path.{_≡_, _∙_, refl, sym, ap, subst}
 use mathlib.Core.Bool.{true, false}
@@ -40,7 +40,8 @@ cut (more {rs = rs} {flash = flash} {eeprom = eeprom} {n = n} {steps = steps} {e
     (subst (λ (x : PieceStep). there (behindByte (x .last)) (x .taken)) e (cut rest (h .1))))
 
 module _ {ps : List (List ℕ)} {rs left : List ℕ} {s end end′ : State} {pieces : List PieceStep} {steps : List UartStep}
-    (run : UartPieces ps rs s pieces left end) (heard : NoneRefused pieces) (bytes : UartBytes (take (takenInAll pieces) rs) s steps end′) where
+    (run : UartPieces ps rs s pieces left end) (heard : NoneRefused pieces)
+    (bytes : UartBytes (take (takenInAll pieces) rs) s steps end′) where
   same : tidiedState end ≡ tidiedState end′
   same =
       let b = bytes-said bytes in
@@ -107,7 +108,8 @@ heard-throughout (more {rs = rs} {flash = flash} {eeprom = eeprom} {n = n} {r = 
       ap (λ (x : PieceStep). takesNone (x .last .answer .number)) e
           ∙ heard-piece n (take k rs) rs flash eeprom (λ z. m .0 (ap (take k) z ∙ take-nil k)) h,
       heard-throughout rest (m .1)
-          (subst (λ (x : PieceStep). EachHeard (bytesIn (drop (x .taken) rs) (behindByte (x .last)))) (sym e) (heard-left n k rs flash eeprom h)),
+          (subst (λ (x : PieceStep). EachHeard (bytesIn (drop (x .taken) rs) (behindByte (x .last)))) (sym e)
+          (heard-left n k rs flash eeprom h)),
     )
 
 -- and where bytes are left the next piece isn't refused, be it empty

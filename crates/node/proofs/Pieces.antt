@@ -1,5 +1,5 @@
--- Answers one and two for a piece, over the call's real contract (Calls.antt), for any record, any bytes and lent memories of any length and
--- content. Each theorem is the law of crates/node_piece_rules at what the contract's equation says.
+-- Answers one and two for a piece, over the call's real contract (Calls.antt), for any record, any bytes and lent memories of any length
+-- and content. Each theorem is the law of crates/node_piece_rules at what the contract's equation says.
 -- Assumes nothing.
 use mathlib.Core.Path.{_≡_, _∙_, sym, ap, subst}
 use mathlib.Core.Bool.{Bool, true, false}
@@ -87,7 +87,8 @@ module _ {n : Node} {p flash eeprom flash′ eeprom′ : List ℕ} {r : PieceAns
   -- in normal mode FLASH stays, and EEPROM but for BOOTFL
   pub uart-piece-normal-spares : (started : Bool) → n .mode ≡ Normal started → ButBootfl flash eeprom flash′ eeprom′
   uart-piece-normal-spares started m =
-      subst (λ (x : UartStep). ButBootfl flash eeprom (x .flash) (x .eeprom)) (sym last-said) (piece-normal-spares n p flash eeprom started m)
+      subst (λ (x : UartStep). ButBootfl flash eeprom (x .flash) (x .eeprom)) (sym last-said)
+      (piece-normal-spares n p flash eeprom started m)
 
   -- what it returns is tidy
   pub uart-piece-is-tidy : tidied (r .answer .node) ≡ r .answer .node

@@ -1,6 +1,6 @@
 -- "They stay until the next restart, whatever is written meanwhile", over the calls' real contracts (Calls.antt): own numbers, fixed bytes
--- and choices are as they were after any frame, any byte and any piece, and after any run of them. Each contract is one equation with the rules'
--- step, so the law of the step (Staying, of node_rules) is a law of the call.
+-- and choices are as they were after any frame, any byte and any piece, and after any run of them. Each contract is one equation with the
+-- rules' step, so the law of the step (Staying, of node_rules) is a law of the call.
 -- Assumes nothing.
 use mathlib.Core.Path.{_≡_, _∙_, refl, ap}
 use mathlib.Core.Bool.{Bool}
@@ -54,8 +54,8 @@ no-restart-stays (pieced c rest) =
     let one = uart-piece-stays c in
     (k .0 ∙ one .0, k .1 ∙ one .1)
 
--- a restart that gave 0, and then any frames, bytes and pieces: the own numbers are those that EEPROM held at the restart, the fixed bytes those
--- of before it, and the choices its own
+-- a restart that gave 0, and then any frames, bytes and pieces: the own numbers are those that EEPROM held at the restart, the fixed bytes
+-- those of before it, and the choices its own
 pub from-restart : {n n′ : Node} {choices : Choices} {passed : Bool} {flash eeprom flash′ eeprom′ : List ℕ} {r : Restarted}
     → RestartWith n choices passed flash eeprom r → r .number ≡ 0 → NoRestart (r .node) flash eeprom n′ flash′ eeprom′
     → (n′ .plate ≡ plateRead (n .plate) eeprom) × (n′ .choices ≡ choices)

@@ -1,5 +1,5 @@
--- UART in pieces (document 02, A1): "Take a piece, stop behind the byte that gives an outcome other than 10, or at the end, and report bytes
--- taken, the outcome and any replies."
+-- UART in pieces (document 02, A1): "Take a piece, stop behind the byte that gives an outcome other than 10, or at the end, and report
+-- bytes taken, the outcome and any replies."
 use Prim.Native.Nat.{ℕ, _+_}
 use mathlib.Core.Path.{_≡_}
 use mathlib.Core.Bool.{Bool, false, _&&_, cond}

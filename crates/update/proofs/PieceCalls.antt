@@ -30,7 +30,7 @@ use Rattle.recipe.specs.Plain.{Memories}
 use Rattle.recipe.proofs.Framing.{frames-twelve}
 use Rattle.update_rules.specs.Delivery.{Delivery}
 use Rattle.update_rules.specs.Mirror.{answersOf}
-use Rattle.update_rules.specs.Serial.{toldAllOnUart, fed, wrappedAll, wrappedTold, incompleteTold, serially, OpenPort, AllDone}
+use Rattle.update_rules.specs.Serial.{toldOnUart, toldAllOnUart, fed, wrappedAll, wrappedTold, incompleteTold, serially, OpenPort, AllDone}
 use Rattle.update_rules.specs.Updated.{Ready, over, leftWhole}
 use Rattle.update_rules.proofs.Serially.{answers-zero, demand-three-serial}
 use Rattle.update_deliver.specs.Taken.{firstFrames}
@@ -52,15 +52,16 @@ told-but-tens (s ∷ ss) = go (eqb (s .answer .number) 10) (told-but-tens ss)
   where
     go : (b : Bool) → toldAllOnUart (butTens ss) ≡ toldButTens (toldAllOnUart ss)
         → toldAllOnUart (cond b (butTens ss) (s ∷ butTens ss))
-        ≡ cond b (toldButTens (toldAllOnUart ss)) ((s .answer .number ∷ s .answer .count ∷ take 15 (s .answer .replies)) ∷ toldButTens (toldAllOnUart ss))
+        ≡ cond b (toldButTens (toldAllOnUart ss)) (toldOnUart (s .answer) ∷ toldButTens (toldAllOnUart ss))
     go true h = h
-    go false h = ap (λ (ts : List (List ℕ)). (s .answer .number ∷ s .answer .count ∷ take 15 (s .answer .replies)) ∷ ts) h
+    go false h = ap (λ (ts : List (List ℕ)). toldOnUart (s .answer) ∷ ts) h
 
 -- of frames that are done, each frame's last byte
 serial-but-tens : (ts : List (List ℕ)) → AllDone ts → toldButTens (serially ts) ≡ map wrappedTold ts
 serial-but-tens [] h = refl
 serial-but-tens (t ∷ ts) h =
-    cond-false (eqb (getD t 0 0) 10) (toldButTens (serially ts)) (wrappedTold t ∷ toldButTens (serially ts)) (ap (λ (k : ℕ). eqb k 10) (h .0))
+    cond-false (eqb (getD t 0 0) 10) (toldButTens (serially ts)) (wrappedTold t ∷ toldButTens (serially ts))
+    (ap (λ (k : ℕ). eqb k 10) (h .0))
     ∙ ap (λ (us : List (List ℕ)). wrappedTold t ∷ us) (serial-but-tens ts (h .1))
 
 -- and none of them is 1, 2 or 3
@@ -164,8 +165,8 @@ pub demand-three-piece-calls : {input output output′ : List ℕ} {t : Translat
     → (q : Recipe) → Legal q → input ≡ printed q → 12 * frameCount q ≤ length output
     → (ws : List (List ℕ)) → Wraps (firstFrames (frameCount q) output′) ws
     → (n : Node) (m : Memories) → Ready n q → OpenPort n (m .flash) (m .eeprom)
-    → {ps : List (List ℕ)} {left : List ℕ} {after : State} {pieces : List PieceStep} → UartPieces ps (joined ws) (over n m) pieces left after
-    → NoneRefused pieces → left ≡ []
+    → {ps : List (List ℕ)} {left : List ℕ} {after : State} {pieces : List PieceStep}
+    → UartPieces ps (joined ws) (over n m) pieces left after → NoneRefused pieces → left ≡ []
     → (t ≡ Frames (frameCount q)) × ArrivedInPieces q n m (toldAllOnUart (butTens (lastsOf pieces))) after
 demand-three-piece-calls translates q legal e room ws wraps n m ready o {ps} {left} {after} {pieces} run h l =
     let same = translated-frames translates q legal e room in
