@@ -4,6 +4,7 @@
 use mathlib.Core.Path.{_≡_, _∙_, sym, ap, subst}
 use mathlib.Core.Bool.{Bool, true, false}
 use mathlib.Core.List.{List, [], _∷_}
+use mathlib.Core.Logic.{_⊎_}
 use Prim.Native.Nat.{ℕ, suc, _≤_}
 use lib.ListN.{length, getD, take, replicate}
 use Rattle.memory_address.specs.Rule.{protected}
@@ -20,7 +21,7 @@ use Rattle.node_rules.specs.Runs.{state, bytesIn, AllTen}
 use Rattle.node_rules.specs.Others.{ButBootfl, ForOthers, LeftByOthersOnUart}
 use Rattle.node_piece_rules.specs.declared.PieceAnswer.{PieceAnswer}
 use Rattle.node_piece_rules.specs.Piece.{PieceStep, pieceAfter, takesNone, noByte, pieceStep, nodeBefore, frameAt}
-use Rattle.node_piece_rules.proofs.Opening.{opens}
+use Rattle.node_piece_rules.proofs.Opening.{no-byte-number, opens}
 use Rattle.node_piece_rules.proofs.Answering.{piece-none, piece-some, piece-refused, open-takes-one, open-empty}
 use Rattle.node_piece_rules.proofs.Spoiling.{piece-silent, piece-protected, piece-lengths, piece-tidy, piece-stays, piece-normal-spares, piece-deaf, piece-normal, piece-programming, piece-others}
 use Rattle.node.proofs.Calls.{uart-piece-said}
@@ -38,6 +39,11 @@ module _ {n : Node} {p flash eeprom flash′ eeprom′ : List ℕ} {r : PieceAns
   -- no byte taken: 1, 2, 3 or 10 by the outcome table, with no reply, the record tidied and both memories as they were
   pub uart-piece-none : r .taken ≡ 0 → uartAfter (r .answer) flash′ eeprom′ ≡ noByte n flash eeprom
   uart-piece-none z = last-said ∙ piece-none n p flash eeprom (sym taken-said ∙ z)
+
+  pub uart-piece-none-number : r .taken ≡ 0 → (takesNone (r .answer .number) ≡ true) ⊎ (r .answer .number ≡ 10)
+  uart-piece-none-number z =
+      subst (λ (x : UartStep). (takesNone (x .answer .number) ≡ true) ⊎ (x .answer .number ≡ 10)) (sym (uart-piece-none z))
+      (no-byte-number n flash eeprom)
 
   -- a byte taken with j in front of it, and no more: those gave 10, and it gave the answer
   pub uart-piece-some : (j : ℕ) → r .taken ≡ suc j

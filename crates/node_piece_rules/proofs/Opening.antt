@@ -4,7 +4,7 @@
 use mathlib.Core.Path.{_≡_, _∙_, refl, sym, ap, subst}
 use mathlib.Core.Bool.{Bool, true, false, not}
 use mathlib.Core.List.{List, [], _∷_}
-use mathlib.Core.Logic.{_⊎_, inl, inr}
+use mathlib.Core.Logic.{_⊎_, ⊎-elim, inl, inr}
 use Prim.Native.Nat.{ℕ}
 use native.Mathlib.Omega.{arith}
 use lib.ListN.{length}
@@ -17,7 +17,7 @@ use Rattle.node_rules.specs.declared.Node.{Node}
 use Rattle.node_rules.specs.Record.{heldOf, tidied}
 use Rattle.node_rules.specs.Outcomes.{Outcome, outcome, firstThat, isDeaf, frameOutcomes}
 use Rattle.node_rules.specs.Step.{done}
-use Rattle.node_rules.specs.Uart.{heldWith, isClosed, incomplete, heldOutcomes, uartStep, silent}
+use Rattle.node_rules.specs.Uart.{UartStep, heldWith, isClosed, incomplete, heldOutcomes, uartStep, silent}
 use Rattle.node_rules.specs.Others.{emptied}
 use Rattle.node_rules.proofs.Deciding.{Among, frame-among}
 use Rattle.node_rules.proofs.Numbers.{uart-number}
@@ -76,6 +76,13 @@ module _ (n : Node) (flash eeprom : List ℕ) where
       go true f false c true d =
           inl (rw (f, c, d) refl, λ b. rw (f, c, d) (ap (λ (x : Node). silent 3 x flash eeprom) (still-held n)))
       go true f false c false d = inr (f, c, d)
+
+-- without a byte: 1, 2 or 3, or else 10
+pub no-byte-number : (n : Node) (flash eeprom : List ℕ)
+    → (takesNone (noByte n flash eeprom .answer .number) ≡ true) ⊎ (noByte n flash eeprom .answer .number ≡ 10)
+no-byte-number n flash eeprom =
+    ⊎-elim (λ r. inl (r .0)) (λ o. inr (ap (λ (x : UartStep). x .answer .number) (open-waits n flash eeprom o)))
+    (refused-or-open n flash eeprom)
 
 -- open in the paper's words: both lengths, pin and mode
 pub opens : (n : Node) (flash eeprom : List ℕ) → length flash ≡ 65536 → length eeprom ≡ 1024 → n .choices .pin ≡ CanAndUart
