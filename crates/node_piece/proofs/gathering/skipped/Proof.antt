@@ -1,7 +1,6 @@
 -- `node_piece::gathering::skipped` meets its contract: the bytes before the first 0xAA are passed over one by one.
 -- Assumes nothing.
-use mathlib.Core.Path.{_≡_, sym}
-use mathlib.Core.Logic.{inl, inr}
+use mathlib.Core.Logic.{inr}
 use Prim.Native.Nat.{_-_, _≤_}
 use native.Mathlib.Omega.{arith}
 use lib.ListN.{length}
