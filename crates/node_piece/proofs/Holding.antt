@@ -44,8 +44,8 @@ told-as c g h was frame taken number r e t = subst (λ (x : Gathered). Told c x 
 
 -- ---- held one by one
 
--- a tidy receiver holds at most fourteen bytes, and counts them
-pub counts-held : (r : Receiver) → r ≡ receiving (heldIn r) → r .count ≡ length (heldIn r)
+-- a tidy receiver counts what it holds
+counts-held : (r : Receiver) → r ≡ receiving (heldIn r) → r .count ≡ length (heldIn r)
 counts-held r e = ap (λ (x : Receiver). x .count) e
 
 -- one byte more is stored
@@ -57,6 +57,13 @@ store-one r ys zs count n b e l m h =
     ∙ ap (λ (j : ℕ). record { held = set (padded ys) j b; count = n }) (sym l)
     ∙ ap (λ (ws : List ℕ). record { held = ws; count = n }) (room-behind ys b (omega (arith, l, m)) ∙ ap padded h)
 
+-- and counted
+kept-counted : (r : Receiver) (ys : List ℕ) (count n : ℕ) → r ≡ record { held = padded ys; count = n } → length ys ≡ count
+    → record { held = r .held; count = count } ≡ receiving ys
+kept-counted r ys count n e l =
+    ap (λ (x : Receiver). record { held = x .held; count = count }) e ∙ ap (λ (j : ℕ). record { held = padded ys; count = j }) (sym l)
+
+-- at most fourteen bytes are held
 few-held : (r : Receiver) → length (heldIn r) ≤ 14
 few-held r = holdable-few (heldIn r) (held-holdable r)
 
@@ -111,7 +118,8 @@ module _ (q : Receiver) (bs : List ℕ) (from : ℕ) where
         omega (arith, n, h .3)
 
     -- one more
-    pub holds-one : i < length bs → count < 15 → Holds (record { held = set (r .held) count (getD bs i 0); count = r .count }) (count + 1) (i + 1)
+    pub holds-one : i < length bs → count < 15
+        → Holds (record { held = set (r .held) count (getD bs i 0); count = r .count }) (count + 1) (i + 1)
     holds-one l m =
         let b = getD bs i 0 in
         let n = length-drop from bs in
@@ -147,9 +155,7 @@ module _ (q : Receiver) (bs : List ℕ) (from : ℕ) where
             refl,
             sym (cond-true (incomplete ys) 10 _ t),
             refl,
-            λ _. ap (λ (x : Receiver). record { held = x .held; count = count }) (h .5)
-                ∙ ap (λ (j : ℕ). record { held = padded ys; count = j }) (sym long)
-                ∙ ap receiving (sym (cond-true (incomplete ys) ys (heldAfterBad c ys) t)),
+            λ _. kept-counted r ys count (q .count) (h .5) long ∙ ap receiving (sym (cond-true (incomplete ys) ys (heldAfterBad c ys) t)),
           )
 
       -- fifteen bytes

@@ -21,43 +21,49 @@ use Rattle.node_rules.specs.declared.Answer.{Answer}
 use Rattle.node_rules.specs.declared.UartAnswer.{UartAnswer}
 use Rattle.node_rules.specs.Record.{receiving, holding, heldOf, withMode, tidied}
 use Rattle.node_rules.specs.Outcomes.{isDeaf, decided}
-use Rattle.node_rules.specs.Step.{after, done, canStep}
+use Rattle.node_rules.specs.Step.{Step, after, done, canStep}
 use Rattle.node_rules.specs.Uart.{UartStep, uartAfter, incomplete, isClosed, heldAfterBad, onUart, viaUart, silent}
 use Rattle.node_rules.proofs.Tidying.{held-held, holding-tidy, tidied-mode}
 use Rattle.node_rules.proofs.Modes.{tidy-deaf}
 use Rattle.node_record.specs.Internal.Tidy.{isTidy}
 use Rattle.node_record.proofs.Tidied.{withReceiver, kept-tidied, lost-tidied}
-use Rattle.node_piece_rules.specs.Piece.{pieceAfter, noByte, lastTaken, pieceStep}
+use Rattle.node_piece_rules.specs.Piece.{PieceStep, pieceAfter, noByte, lastTaken, pieceStep}
 use Rattle.node_piece_rules.proofs.Opening.{Opened, refused-or-open}
 use Rattle.node_piece_rules.proofs.Answering.{refused-takes-none}
-use Rattle.node_piece.specs.Internal.Gathered.{refusalOf, gathered, numberOf, leftOf, Told, silentPiece}
+use Rattle.node_piece.specs.Internal.Gathered.{refusalOf, gathered, numberOf, leftOf, Told, silentPiece, wholePiece}
 use Rattle.node_piece.proofs.Judging.{complete, piece-gathered}
 
--- a frame to a record that holds nothing does the same to that record tidied
+-- where nothing is held, a frame does to a record what it does to that record tidied
 emptied-tidy : (n : Node) → tidied (holding n []) ≡ holding (tidied n) []
 unfolding tidied
 emptied-tidy n = ap (holding (tidied n)) (held-held [] tt)
 
-frame-tidied : (n : Node) (f flash eeprom : List ℕ)
+frame-when-empty : (n : Node) (f flash eeprom : List ℕ)
     → canStep (holding n []) f flash eeprom ≡ canStep (holding (tidied n) []) f flash eeprom
 unfolding canStep
-frame-tidied n f flash eeprom =
+frame-when-empty n f flash eeprom =
     ap (λ (x : Node). done (decided x (full flash eeprom) f) x f flash eeprom)
     (emptied-tidy n ∙ sym (holding-tidy (tidied n) [] tt (tidied-mode n)))
 
--- ---- the record tidied but for what is held
+-- what a frame does, its replies wrapped
+pub wraps : (taken : ℕ) (u : UartAnswer) (a : Answer) (flash eeprom : List ℕ) (s : Step) → u ≡ onUart a → after a flash eeprom ≡ s
+    → record { taken = taken; last = uartAfter u flash eeprom } ≡ wholePiece taken s
+wraps taken u a flash eeprom s e h =
+    ap (λ (x : UartAnswer). record { taken = taken; last = uartAfter x flash eeprom }) e ∙ ap (wholePiece taken) h
+
+-- ---- a record whose mode is kept where it is tidy, and which holds something else, is the tidied record that holds that
 
 module _ (n : Node) (r : Receiver) where
-  pub kept-mode : isTidy (n .mode) ≡ true → withReceiver n r ≡ withReceiver (tidied n) r
-  kept-mode t = ap (λ (x : Node). withReceiver x r) (kept-tidied n (receiving (heldOf n)) refl t)
+  pub kept-as-tidied : isTidy (n .mode) ≡ true → withReceiver n r ≡ withReceiver (tidied n) r
+  kept-as-tidied t = ap (λ (x : Node). withReceiver x r) (kept-tidied n (receiving (heldOf n)) refl t)
 
-  pub lost-mode : isTidy (n .mode) ≡ false → withMode (withReceiver n r) (Programming Nothing) ≡ withReceiver (tidied n) r
-  lost-mode t = ap (λ (x : Node). withReceiver x r) (lost-tidied n (receiving (heldOf n)) refl t)
+  pub lost-as-tidied : isTidy (n .mode) ≡ false → withMode (withReceiver n r) (Programming Nothing) ≡ withReceiver (tidied n) r
+  lost-as-tidied t = ap (λ (x : Node). withReceiver x r) (lost-tidied n (receiving (heldOf n)) refl t)
 
 module _ (n : Node) (bs flash eeprom : List ℕ) where
   -- ---- 1, 2 and 3
 
-  -- whether 1, 2 or 3 is met is seen on the record as it came
+  -- whether 1, 2 or 3 is met is seen on the record as it came: it is, or none of them is
   abbrev Shut : Type 0
   Shut =
       (refusalOf (full flash eeprom) n ≡ 0 → ⊥) × (Opened n flash eeprom → ⊥)
@@ -154,15 +160,13 @@ module _ (n : Node) (bs flash eeprom : List ℕ) where
           go false i true w = (i, w)
           go false i false w = absurd (suc-ne-zero 10 (sym (t .1 ∙ rw (i, w) refl) ∙ z))
 
-      pub whole : (flash′ eeprom′ : List ℕ) (a : Answer) (none : Receiver) (u : UartAnswer) → none ≡ receiving []
-          → after a flash′ eeprom′ ≡ canStep (withReceiver n none) frame flash eeprom → u ≡ onUart a
-          → record { taken = taken; last = uartAfter u flash′ eeprom′ } ≡ pieceStep n bs flash eeprom
-      whole flash′ eeprom′ a none u m s v =
+      pub whole : (none : Receiver) (p : PieceStep) → none ≡ receiving []
+          → p ≡ wholePiece taken (canStep (withReceiver n none) frame flash eeprom) → p ≡ pieceStep n bs flash eeprom
+      whole none p m e =
           let i : frame ≡ innerOf ys = t .2 ∙ cond-true (eqb number 0) (innerOf ys) (replicate 12 0) (eq-eqb number 0 z) in
-          completes (uartAfter u flash′ eeprom′) (right .0)
+          e
+          ∙ completes (viaUart (canStep (withReceiver n none) frame flash eeprom)) (right .0)
           (cond-true (rightlyWrapped ys) _ _ (right .1)
-          ∙ ap viaUart (sym (frame-tidied n (innerOf ys) flash eeprom))
+          ∙ ap viaUart (sym (frame-when-empty n (innerOf ys) flash eeprom))
           ∙ ap (λ (x : List ℕ). viaUart (canStep (holding n []) x flash eeprom)) (sym i)
-          ∙ ap (λ (x : Receiver). viaUart (canStep (withReceiver n x) frame flash eeprom)) (sym m)
-          ∙ ap viaUart (sym s)
-          ∙ ap (λ (x : UartAnswer). uartAfter x flash′ eeprom′) (sym v))
+          ∙ ap (λ (x : Receiver). viaUart (canStep (withReceiver n x) frame flash eeprom)) (sym m))

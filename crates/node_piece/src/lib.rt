@@ -4,8 +4,9 @@ mod gathering;
 
 ghost use mathlib.Core.Path.{_≡_};
 ghost use Rattle.memory_address.specs.Places.{full};
+ghost use Rattle.node_rules.specs.Step.{canStep};
 ghost use Rattle.node_piece_rules.specs.Piece.{pieceAfter, pieceStep};
-ghost use Rattle.node_piece.specs.Internal.Gathered.{refusalOf, silentPiece};
+ghost use Rattle.node_piece.specs.Internal.Gathered.{refusalOf, silentPiece, wholePiece};
 use node_piece_rules::PieceAnswer;
 use node_rules::Mode;
 use node_rules::Node;
@@ -41,6 +42,31 @@ fn refusal(n: Node, flash: &[u8], eeprom: &[u8]) -> u8
     0
 }
 
+// A complete frame goes the way of a CAN frame, its replies wrapped.
+fn obeyed(
+    taken: usize,
+    node: Node,
+    frame: &[u8],
+    flash: &mut [u8],
+    eeprom: &mut [u8],
+) -> PieceAnswer
+    ensures { λ r. ⌜
+        pieceAfter r (now (flash .exit)) (now (eeprom .exit))
+        ≡ wholePiece taken (canStep node (now (frame .entry)) (now (flash .entry)) (now (eeprom .entry))) ⌝ }
+{
+    let a = node_can::can_frame(node, frame, flash, eeprom);
+    let replies = a.replies;
+    let wrapped = node_reply_uart::wrapped_replies(a.count, replies);
+    let then = a.node;
+    let answer = UartAnswer {
+        number: a.number,
+        count: a.count,
+        replies: wrapped,
+        node: then,
+    };
+    PieceAnswer { taken, answer }
+}
+
 // A piece of bytes from UART: 1, 2 and 3 with no byte taken and the record tidied; then its bytes are gathered up to one that completes a
 // frame, which goes the way of a CAN frame where its sum and stop are right. 10 where no frame is complete at the end.
 pub fn uart_piece(node: Node, piece: &[u8], flash: &mut [u8], eeprom: &mut [u8]) -> PieceAnswer
@@ -68,18 +94,5 @@ pub fn uart_piece(node: Node, piece: &[u8], flash: &mut [u8], eeprom: &mut [u8])
     }
     let none = node_record::none_held();
     n.receiver = none;
-    let a = node_can::can_frame(n, &frame, flash, eeprom);
-    let replies = a.replies;
-    let wrapped = node_reply_uart::wrapped_replies(a.count, replies);
-    let then = a.node;
-    let answer = UartAnswer {
-        number: a.number,
-        count: a.count,
-        replies: wrapped,
-        node: then,
-    };
-    PieceAnswer {
-        taken: g.taken,
-        answer,
-    }
+    obeyed(g.taken, n, &frame, flash, eeprom)
 }

@@ -6,26 +6,34 @@ use borrow.Author.Tests.{not-true, not-false}
 use Rattle.node_rules.specs.Record.{tidied}
 use Rattle.node_record.proofs.Tidied.{withReceiver}
 use Rattle.node_piece_rules.proofs.Opening.{Opened}
-use Rattle.node_piece.proofs.Returning.{kept-mode, lost-mode, opened, refused, waits, whole}
+use Rattle.node_piece.proofs.Returning.{kept-as-tidied, lost-as-tidied, opened, refused, waits, whole}
 use borrow.Author.Needs.{needs}
 use Rattle.node_piece.proofs.uart_piece.Statement.{statement}
 use Rattle.node_piece.proofs.uart_piece.Tie as tie
 
 -- behind 1, 2 and 3 the node is open, and running
-open-here : (c : tie.Else1) → Opened (c .before .before .before .before .before .before .before .args .node) (c .before .before .before .before .before .before .before .args .flash .now) (c .before .before .before .before .before .before .before .args .eeprom .now)
+open-here : (c : tie.Else1)
+    → Opened (c .before .before .before .before .before .before .before .args .node)
+    (c .before .before .before .before .before .before .before .args .flash .now)
+    (c .before .before .before .before .before .before .before .args .eeprom .now)
 open-here c =
     let a = c .before .before .before .before .before .before .before .args in
-    opened (a .node) (a .piece .now) (a .flash .now) (a .eeprom .now) (c .before .refusal .result) (c .before .refusal .ensures) (c .if1 .left)
+    let r = c .before .refusal in
+    opened (a .node) (a .piece .now) (a .flash .now) (a .eeprom .now) (r .result) (r .ensures) (c .if1 .left)
 
 -- the mode is tidied
 tidied-here : (c : tie.Joined3)
-    → c .if3 .n ≡ withReceiver (tidied (c .before .before .before .before .before .before .before .before .before .before .before .before .before .before .before .before .args .node)) (c .before .before .before .before .before .before .gather .result .receiver)
+    → c .if3 .n
+    ≡ withReceiver (tidied (c .before .before .before .before .before .before .before .before
+    .before .before .before .before .before .before .before .before .args .node))
+    (c .before .before .before .before .before .before .gather .result .receiver)
 tidied-here c =
-    let n = c .before .before .before .before .before .before .before .before .before .before .before .before .before .before .before .before .args .node in
-    let r = c .before .before .before .before .before .before .gather .result .receiver in
+    let g = c .before .before .before .before .before .before in
+    let n = g .before .before .before .before .before .before .before .before .before .before .args .node in
+    let r = g .gather .result .receiver in
     let t = c .before .is-tidy in
-    ⊎-elim (λ x. x .2 ∙ x .1 .ensures ∙ lost-mode n r (sym (t .ensures) ∙ not-true (t .result) (x .0 .taken)))
-    (λ x. x .1 ∙ kept-mode n r (sym (t .ensures) ∙ not-false (t .result) (x .0 .left)))
+    ⊎-elim (λ x. x .2 ∙ x .1 .ensures ∙ lost-as-tidied n r (sym (t .ensures) ∙ not-true (t .result) (x .0 .taken)))
+    (λ x. x .1 ∙ kept-as-tidied n r (sym (t .ensures) ∙ not-false (t .result) (x .0 .left)))
     (c .if3 .came)
 
 refusal-requires : tie.Need-refusal-requires
@@ -74,23 +82,22 @@ same-length-4 c = search needs
 
 returns-2 : tie.Need-returns-2
 returns-2 c =
-    let a = c .before .before .before .before .before .before .before .before .before .before .before .before .before .before .before .before .before .args in
-    let g = c .before .before .before .before .before .before .before .gather in
+    let h = c .before .before .before .before .before .before .before in
+    let o = h .before .before .before in
+    let a = o .before .before .before .before .before .before .before .args in
+    let g = h .gather in
     rw (c .silent2 .ensures)
-    (waits (a .node) (a .piece .now) (a .flash .now) (a .eeprom .now) (open-here (c .before .before .before .before .before .before .before .before .before .before)) (g .result .taken) (g .result .number)
+    (waits (a .node) (a .piece .now) (a .flash .now) (a .eeprom .now) (open-here o) (g .result .taken) (g .result .number)
     (g .result .receiver) _ (g .ensures) (c .before .if3 .n) (c .before .before .before .before .if2 .taken) (tidied-here (c .before)))
 
 none-held-requires : tie.Need-none-held-requires
 none-held-requires c κs = search needs
 
-slice-aggregate-can-frame : tie.Need-slice-aggregate-can-frame
-slice-aggregate-can-frame c = search needs
+slice-aggregate-obeyed : tie.Need-slice-aggregate-obeyed
+slice-aggregate-obeyed c = search needs
 
-can-frame-requires : tie.Need-can-frame-requires
-can-frame-requires c κs = search needs
-
-wrapped-replies-requires : tie.Need-wrapped-replies-requires
-wrapped-replies-requires c κs = search needs
+obeyed-requires : tie.Need-obeyed-requires
+obeyed-requires c κs = search needs
 
 same-length-5 : tie.Need-same-length-5
 same-length-5 c = search needs
@@ -100,12 +107,14 @@ same-length-6 c = search needs
 
 returns-3 : tie.Need-returns-3
 returns-3 c =
-    let a = c .before .before .before .before .before .before .before .before .before .before .before .before .before .before .before .before .before .before .before .before .before .before .before .before .before .args in
-    let g = c .before .before .before .before .before .before .before .before .before .before .before .before .before .before .before .gather in
-    let f = c .before .before .before .before .before .before .before .can-frame in
-    whole (a .node) (a .piece .now) (a .flash .now) (a .eeprom .now) (open-here (c .before .before .before .before .before .before .before .before .before .before .before .before .before .before .before .before .before .before)) (g .result .taken) (g .result .number)
-    (g .result .receiver) _ (g .ensures) (c .before .before .before .before .before .before .before .before .before .before .before .before .if2 .left) _ _ (f .result) (c .before .before .before .before .before .before .before .before .before .before .before .none-held .result) _ (c .before .before .before .before .before .before .before .before .before .before .before .none-held .ensures)
-    (f .ensures) (simp (c .before .wrapped-replies .ensures))
+    let h = c .before .before .before .before .before .before .before .before .before .before .before .before in
+    let o = h .before .before .before in
+    let a = o .before .before .before .before .before .before .before .args in
+    let g = h .gather in
+    let none = c .before .before .before .before .before .before .before .before .none-held in
+    whole (a .node) (a .piece .now) (a .flash .now) (a .eeprom .now) (open-here o) (g .result .taken) (g .result .number)
+    (g .result .receiver) _ (g .ensures) (c .before .before .before .before .before .before .before .before .before .if2 .left)
+    (none .result) _ (none .ensures) (c .before .before .before .before .obeyed .ensures)
 
 pub uart-piece-spec : {M : Type 1} → statement M
 uart-piece-spec =
@@ -126,9 +135,8 @@ uart-piece-spec =
     same-length-4
     returns-2
     none-held-requires
-    slice-aggregate-can-frame
-    can-frame-requires
-    wrapped-replies-requires
+    slice-aggregate-obeyed
+    obeyed-requires
     same-length-5
     same-length-6
     returns-3)

@@ -8,9 +8,6 @@ use Rattle.node_piece.proofs.Holding.{at-once-held, at-once-few, at-onc
 use borrow.Author.Needs.{needs}
 use Rattle.node_piece.proofs.gathering.at_once.Statement.{statement}
 use Rattle.node_piece.proofs.gathering.at_once.Tie as tie
-use Rattle.node_piece.proofs.gathering.at_once.Reads as reads
-use Rattle.node_piece.proofs.gathering.at_once.Lts as lts
-use Rattle.frame_uart.proofs.unwrap.Reads as unwrap-reads
 
 returns : tie.Need-returns
 returns c =

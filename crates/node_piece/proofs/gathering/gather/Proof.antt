@@ -17,8 +17,9 @@ start-requires c κs = search needs
 at-once-requires : tie.Need-at-once-requires
 at-once-requires c κs =
     let a = c .before .before .before .before .before .args in
-    let t = c .before .before .tidy-receiver in (
-      from-few (a .receiver) (a .piece .now) (a .frame .now) (t .result) (t .ensures) (c .before .start .result) (c .before .start .ensures),
+    let t = c .before .before .tidy-receiver in
+    let s = c .before .start in (
+      from-few (a .receiver) (a .piece .now) (a .frame .now) (t .result) (t .ensures) (s .result) (s .ensures),
       c .before .before .before .before .before .pre,
     )
 
@@ -48,11 +49,14 @@ returns c =
 
 hold-requires : tie.Need-hold-requires
 hold-requires c κs =
-    let a = c .before .before .before .before .before .before .before .before .before .before .args in
+    let h = c .before .before .before .before .before .before .before .before .before .before in
+    let a = h .args in
     let t = c .before .before .before .before .before .before .before .tidy-receiver in
     let o = c .before .before .before .before .at-once in
     let s = c .before .before .before .before .before .before .start in
-    (tidy-receiver (t .result) (a .receiver) (t .ensures) .0, s .ensures, ap length (frame-kept (a .receiver) (a .piece .now) (a .frame .now) (t .result) (t .ensures) (s .result) (s .ensures) (o .result) _ (o .ensures .1) (c .before .if1 .left)) ∙ c .before .before .before .before .before .before .before .before .before .before .pre)
+    let kept = frame-kept (a .receiver) (a .piece .now) (a .frame .now) (t .result) (t .ensures) (s .result) (s .ensures) (o .result) _
+    (o .ensures .1) (c .before .if1 .left) in
+    (tidy-receiver (t .result) (a .receiver) (t .ensures) .0, s .ensures, ap length kept ∙ h .pre)
 
 same-length-2 : tie.Need-same-length-2
 same-length-2 c = search needs
@@ -65,7 +69,8 @@ returns-2 c =
     let s = c .before .before .before .before .before .before .before .before .before .start in
     let h = c .before .before .hold in
     told-by-one (a .receiver) (a .piece .now) (a .frame .now) (t .result) (t .ensures) (s .result) (s .ensures) (a .c) (o .result) _
-    (h .result .taken) (h .result .number) (h .result .receiver) _ (o .ensures .1) (c .before .before .before .before .if1 .left) (h .ensures)
+    (h .result .taken) (h .result .number) (h .result .receiver) _ (o .ensures .1)
+    (c .before .before .before .before .if1 .left) (h .ensures)
 
 pub gather-spec : {M : Type 1} → statement M
 gather-spec =

@@ -7,10 +7,6 @@ use Rattle.node_piece.proofs.Holding.{Holds, holds-none, holds-one, end
 use borrow.Author.Needs.{needs}
 use Rattle.node_piece.proofs.gathering.hold.Statement.{statement}
 use Rattle.node_piece.proofs.gathering.hold.Tie as tie
-use Rattle.node_piece.proofs.gathering.hold.Reads as reads
-use Rattle.node_piece.proofs.gathering.hold.Lts as lts
-use Rattle.frame_uart.proofs.unwrap.Reads as unwrap-reads
-use Rattle.node_port.proofs.held_after_bad.Reads as held-after-bad-reads
 
 abbrev Inv-loop : tie.InvT-loop
 Inv-loop c from piece frame r₀ count₀ i₀ r count i = Holds r₀ piece from r count i
