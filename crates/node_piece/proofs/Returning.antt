@@ -27,10 +27,10 @@ use Rattle.node_rules.proofs.Tidying.{held-held, holding-tidy, tidied-mode}
 use Rattle.node_rules.proofs.Modes.{tidy-deaf}
 use Rattle.node_record.specs.Internal.Tidy.{isTidy}
 use Rattle.node_record.proofs.Tidied.{withReceiver, kept-tidied, lost-tidied}
-use Rattle.node_piece_rules.specs.Piece.{PieceStep, pieceAfter, noByte, lastTaken, pieceStep}
+use Rattle.node_piece_rules.specs.Piece.{pieceAfter, noByte, lastTaken, pieceStep}
 use Rattle.node_piece_rules.proofs.Opening.{Opened, refused-or-open}
 use Rattle.node_piece_rules.proofs.Answering.{refused-takes-none}
-use Rattle.node_piece.specs.Internal.Gathered.{refusalOf, gathered, numberOf, leftOf, Told, silentPiece, wholePiece}
+use Rattle.node_piece.specs.Internal.Gathered.{refusalOf, gathered, numberOf, leftOf, Told, silentPiece}
 use Rattle.node_piece.proofs.Judging.{complete, piece-gathered}
 
 -- where nothing is held, a frame does to a record what it does to that record tidied
@@ -46,10 +46,9 @@ frame-when-empty n f flash eeprom =
     (emptied-tidy n ∙ sym (holding-tidy (tidied n) [] tt (tidied-mode n)))
 
 -- what a frame does, its replies wrapped
-pub wraps : (taken : ℕ) (u : UartAnswer) (a : Answer) (flash eeprom : List ℕ) (s : Step) → u ≡ onUart a → after a flash eeprom ≡ s
-    → record { taken = taken; last = uartAfter u flash eeprom } ≡ wholePiece taken s
-wraps taken u a flash eeprom s e h =
-    ap (λ (x : UartAnswer). record { taken = taken; last = uartAfter x flash eeprom }) e ∙ ap (wholePiece taken) h
+pub wraps : (u : UartAnswer) (a : Answer) (flash eeprom : List ℕ) (s : Step) → u ≡ onUart a → after a flash eeprom ≡ s
+    → uartAfter u flash eeprom ≡ viaUart s
+wraps u a flash eeprom s e h = ap (λ (x : UartAnswer). uartAfter x flash eeprom) e ∙ ap viaUart h
 
 -- ---- a record whose mode is kept where it is tidy, and which holds something else, is the tidied record that holds that
 
@@ -132,6 +131,7 @@ module _ (n : Node) (bs flash eeprom : List ℕ) where
         ap (λ (x : Node). pieceAfter (silentPiece taken number x) flash eeprom) e
         ∙ go (incomplete ys) refl (rightlyWrapped ys) refl
       where
+        -- with the number and what stays held, as they are told
         rest : (zs : List ℕ) (k : ℕ) → leftOf (n .choices) ys ≡ zs → numberOf ys ≡ k
             → silent k (holding (tidied n) zs) flash eeprom ≡ silent number (withReceiver (tidied n) r) flash eeprom
         rest zs k left gives =
@@ -160,13 +160,14 @@ module _ (n : Node) (bs flash eeprom : List ℕ) where
           go false i true w = (i, w)
           go false i false w = absurd (suc-ne-zero 10 (sym (t .1 ∙ rw (i, w) refl) ∙ z))
 
-      pub whole : (none : Receiver) (p : PieceStep) → none ≡ receiving []
-          → p ≡ wholePiece taken (canStep (withReceiver n none) frame flash eeprom) → p ≡ pieceStep n bs flash eeprom
-      whole none p m e =
+      pub whole : (none : Receiver) (x : UartStep) → none ≡ receiving []
+          → x ≡ viaUart (canStep (withReceiver n none) frame flash eeprom)
+          → record { taken = taken; last = x } ≡ pieceStep n bs flash eeprom
+      whole none x m e =
           let i : frame ≡ innerOf ys = t .2 ∙ cond-true (eqb number 0) (innerOf ys) (replicate 12 0) (eq-eqb number 0 z) in
-          e
-          ∙ completes (viaUart (canStep (withReceiver n none) frame flash eeprom)) (right .0)
+          completes x (right .0)
           (cond-true (rightlyWrapped ys) _ _ (right .1)
           ∙ ap viaUart (sym (frame-when-empty n (innerOf ys) flash eeprom))
-          ∙ ap (λ (x : List ℕ). viaUart (canStep (holding n []) x flash eeprom)) (sym i)
-          ∙ ap (λ (x : Receiver). viaUart (canStep (withReceiver n x) frame flash eeprom)) (sym m))
+          ∙ ap (λ (f : List ℕ). viaUart (canStep (holding n []) f flash eeprom)) (sym i)
+          ∙ ap (λ (q : Receiver). viaUart (canStep (withReceiver n q) frame flash eeprom)) (sym m)
+          ∙ sym e)

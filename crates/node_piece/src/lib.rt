@@ -5,8 +5,9 @@ mod gathering;
 ghost use mathlib.Core.Path.{_≡_};
 ghost use Rattle.memory_address.specs.Places.{full};
 ghost use Rattle.node_rules.specs.Step.{canStep};
+ghost use Rattle.node_rules.specs.Uart.{uartAfter, viaUart};
 ghost use Rattle.node_piece_rules.specs.Piece.{pieceAfter, pieceStep};
-ghost use Rattle.node_piece.specs.Internal.Gathered.{refusalOf, silentPiece, wholePiece};
+ghost use Rattle.node_piece.specs.Internal.Gathered.{refusalOf, silentPiece};
 use node_piece_rules::PieceAnswer;
 use node_rules::Mode;
 use node_rules::Node;
@@ -43,28 +44,21 @@ fn refusal(n: Node, flash: &[u8], eeprom: &[u8]) -> u8
 }
 
 // A complete frame goes the way of a CAN frame, its replies wrapped.
-fn obeyed(
-    taken: usize,
-    node: Node,
-    frame: &[u8],
-    flash: &mut [u8],
-    eeprom: &mut [u8],
-) -> PieceAnswer
+fn obeyed(node: Node, frame: &[u8], flash: &mut [u8], eeprom: &mut [u8]) -> UartAnswer
     ensures { λ r. ⌜
-        pieceAfter r (now (flash .exit)) (now (eeprom .exit))
-        ≡ wholePiece taken (canStep node (now (frame .entry)) (now (flash .entry)) (now (eeprom .entry))) ⌝ }
+        uartAfter r (now (flash .exit)) (now (eeprom .exit))
+        ≡ viaUart (canStep node (now (frame .entry)) (now (flash .entry)) (now (eeprom .entry))) ⌝ }
 {
     let a = node_can::can_frame(node, frame, flash, eeprom);
     let replies = a.replies;
     let wrapped = node_reply_uart::wrapped_replies(a.count, replies);
     let then = a.node;
-    let answer = UartAnswer {
+    UartAnswer {
         number: a.number,
         count: a.count,
         replies: wrapped,
         node: then,
-    };
-    PieceAnswer { taken, answer }
+    }
 }
 
 // A piece of bytes from UART: 1, 2 and 3 with no byte taken and the record tidied; then its bytes are gathered up to one that completes a
@@ -94,5 +88,9 @@ pub fn uart_piece(node: Node, piece: &[u8], flash: &mut [u8], eeprom: &mut [u8])
     }
     let none = node_record::none_held();
     n.receiver = none;
-    obeyed(g.taken, n, &frame, flash, eeprom)
+    let answer = obeyed(n, &frame, flash, eeprom);
+    PieceAnswer {
+        taken: g.taken,
+        answer,
+    }
 }

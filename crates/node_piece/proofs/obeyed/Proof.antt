@@ -23,7 +23,7 @@ returns c =
     let s = c .before .before .before .before .before .before .before in
     let f = s .can-frame in
     let a = s .before .before .before .before .before .before .args in
-    wraps (a .taken) _ (f .result) _ _ (canStep (a .node) (a .frame .now) (a .flash .now) (a .eeprom .now)) (simp (c .before .wrapped-replies .ensures))
+    wraps _ (f .result) _ _ (canStep (a .node) (a .frame .now) (a .flash .now) (a .eeprom .now)) (simp (c .before .wrapped-replies .ensures))
     (f .ensures)
 
 pub obeyed-spec : {M : Type 1} → statement M

@@ -12,10 +12,8 @@ use Rattle.node_rules.specs.declared.Receiver.{Receiver}
 use Rattle.node_rules.specs.declared.Node.{Node}
 use Rattle.node_rules.specs.Record.{receiving}
 use Rattle.node_rules.specs.Outcomes.{isDeaf}
-use Rattle.node_rules.specs.Step.{Step}
-use Rattle.node_rules.specs.Uart.{heldWith, incomplete, isClosed, heldAfterBad, viaUart, silentOnUart}
+use Rattle.node_rules.specs.Uart.{heldWith, incomplete, isClosed, heldAfterBad, silentOnUart}
 use Rattle.node_piece_rules.specs.declared.PieceAnswer.{PieceAnswer}
-use Rattle.node_piece_rules.specs.Piece.{PieceStep}
 
 -- 1, 2 or 3, or else 0; whether both memories are full is known
 abbrev pub refusalOf : Bool → Node → ℕ
@@ -68,7 +66,3 @@ Told c g was taken number receiver frame =
 -- so many bytes taken, and no reply
 abbrev pub silentPiece : ℕ → ℕ → Node → PieceAnswer
 silentPiece taken number n = record { taken = taken; answer = silentOnUart number n }
-
--- so many bytes taken, and what the frame does, its replies wrapped
-abbrev pub wholePiece : ℕ → Step → PieceStep
-wholePiece taken s = record { taken = taken; last = viaUart s }
