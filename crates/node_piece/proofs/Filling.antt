@@ -9,15 +9,13 @@ use Prim.Native.Nat.{ℕ, zero, suc, _+_, _≤_, _<_}
 use native.Mathlib.Nat.{suc-inj, suc-ne-zero}
 use native.Mathlib.Omega.{arith}
 use lib.Dec.{eqb}
-use lib.ListN.{length, getD, take, drop, set, length-append, drop-of-length-le}
-use lib.Seq.{length-take-le, take-suc, getD-drop}
-use borrow.Author.Tests.{eqb-true, eq-eqb, ltb-true, ltb-false}
-use Rattle.base.proofs.Choice.{by-cond}
-use Rattle.node_rules.specs.Uart.{heldWith, incomplete}
-use Rattle.node_rules.specs.declared.Receiver.{Receiver}
-use Rattle.node_rules.specs.Record.{padded, receiving}
-use Rattle.node_uart.proofs.Listening.{held-behind, room-behind}
-use Rattle.node_piece.specs.Internal.Gathered.{Gathered, gatheredNone, oneMore, gathered, skipCount, Begun}
+use lib.ListN.{length, getD, take, drop, length-append, drop-of-length-le}
+use lib.Seq.{getD-drop}
+use borrow.Author.Tests.{eqb-true, eq-eqb, ne-eqb, ltb-true, ltb-false}
+use Rattle.base.proofs.Choice.{by-cond, cond-false}
+use Rattle.node_rules.specs.Uart.{incomplete}
+use Rattle.node_uart.proofs.Listening.{held-behind}
+use Rattle.node_piece.specs.Internal.Gathered.{Gathered, gatheredNone, oneMore, gathered, skipCount, startOf}
 
 -- ---- bytes that are skipped
 
@@ -29,10 +27,10 @@ skip-few (b ∷ bs) =
     by-cond (λ (k : ℕ). k ≤ suc (length bs)) (eqb b 0xAA) 0 (suc (skipCount bs)) (λ _. omega arith) (λ _. omega (arith, h))
 
 -- so many more bytes in front
-abbrev pub later : ℕ → Gathered → Gathered
+abbrev later : ℕ → Gathered → Gathered
 later k g = record { taken = k + g .taken; held = g .held }
 
-pub skips : (bs : List ℕ) → gathered [] bs ≡ later (skipCount bs) (gathered [] (drop (skipCount bs) bs))
+skips : (bs : List ℕ) → gathered [] bs ≡ later (skipCount bs) (gathered [] (drop (skipCount bs) bs))
 unfolding gathered skipCount
 skips [] = refl
 skips (b ∷ bs) = go (eqb b 0xAA) refl (skips bs)
@@ -50,7 +48,7 @@ skips (b ∷ bs) = go (eqb b 0xAA) refl (skips bs)
         ap oneMore h ∙ ap (λ (j : ℕ). record { taken = j; held = g .held }) k
 
 -- what is behind them is nothing, or starts with 0xAA
-pub skip-finds : (bs : List ℕ) → (skipCount bs ≡ length bs) ⊎ (getD bs (skipCount bs) 0 ≡ 0xAA)
+skip-finds : (bs : List ℕ) → (skipCount bs ≡ length bs) ⊎ (getD bs (skipCount bs) 0 ≡ 0xAA)
 unfolding skipCount
 skip-finds [] = inl refl
 skip-finds (b ∷ bs) =
@@ -81,11 +79,15 @@ skips-one bs i l k d =
 
 -- ---- bytes that are held
 
+-- behind bytes that are held, or from 0xAA on
+abbrev Begun : List ℕ → List ℕ → Type 0
+Begun xs cs = (length xs ≡ 0 → ⊥) ⊎ ((cs ≡ []) ⊎ (getD cs 0 0 ≡ 0xAA))
+
 -- as many as there is room for, or as there are
 abbrev pub AsMany : List ℕ → List ℕ → ℕ → Type 0
 AsMany xs cs k = ((length xs + k ≡ 15) × (k ≤ length cs)) ⊎ ((k ≡ length cs) × (length xs + k ≤ 15))
 
-pub fills : (cs xs : List ℕ) (k : ℕ) → length xs ≤ 14 → Begun xs cs → AsMany xs cs k
+fills : (cs xs : List ℕ) (k : ℕ) → length xs ≤ 14 → Begun xs cs → AsMany xs cs k
     → gathered xs cs ≡ record { taken = k; held = xs ++ take k cs }
 unfolding gathered
 fills [] xs k l b m =
@@ -114,61 +116,34 @@ fills (c ∷ cs) xs (suc k) l b m =
     let z : k ≡ 0 = ⊎-elim (λ h. omega (arith, long, many, h .0, l)) (λ h. omega (arith, long, many, h .1, l)) m in
     sym (ap (λ (j : ℕ). record { taken = suc j; held = xs ++ (c ∷ take j cs) }) z))
 
--- ---- a loop that holds them one by one
-
-taken-length : (xs cs : List ℕ) (k : ℕ) → k ≤ length cs → length (xs ++ take k cs) ≡ length xs + k
-taken-length xs cs k l = length-append xs (take k cs) ∙ ap (λ (j : ℕ). length xs + j) (length-take-le k cs l)
-
--- one more
-pub holds-one : (r : Receiver) (xs cs : List ℕ) (count k n b : ℕ) → r ≡ record { held = padded (xs ++ take k cs); count = n }
-    → count ≡ length xs → k < length cs → length xs + k ≤ 14 → b ≡ getD cs k 0
-    → _≡_ {A = Receiver} (record { held = set (r .held) (count + k) b; count = r .count }) (record {
-      held = padded (xs ++ take (k + 1) cs);
-      count = n;
-    })
-holds-one r xs cs count k n b e c l f g =
-    let ys = xs ++ take k cs in
-    let long : length ys ≡ length xs + k = taken-length xs cs k (omega (arith, l)) in
-    let at : count + k ≡ length ys = omega (arith, long, c) in
-    let next : k + 1 ≡ suc k = omega arith in
-    let more : ys ++ (b ∷ []) ≡ xs ++ take (k + 1) cs =
-    append-assoc xs (take k cs) (b ∷ [])
-    ∙ ap (λ (x : ℕ). xs ++ (take k cs ++ (x ∷ []))) g
-    ∙ sym (ap (λ (zs : List ℕ). xs ++ zs) (ap (λ (j : ℕ). take j cs) next ∙ take-suc cs k 0 l)) in
-    ap (λ (x : Receiver). record { held = set (x .held) (count + k) b; count = x .count }) e
-    ∙ ap (λ (j : ℕ). record { held = set (padded ys) j b; count = n }) at
-    ∙ ap (λ (h : List ℕ). record { held = h; count = n }) (room-behind ys b (omega (arith, long, f)) ∙ ap padded more)
-
--- all of them
-pub holds-all : (r : Receiver) (xs cs : List ℕ) (count k n : ℕ) → r ≡ record { held = padded (xs ++ take k cs); count = n }
-    → count ≡ length xs → length xs ≤ 14 → Begun xs cs → AsMany xs cs k
-    → (k ≡ gathered xs cs .taken) × (record { held = r .held; count = count + k } ≡ receiving (gathered xs cs .held))
-holds-all r xs cs count k n e c l b m =
-    let g = fills cs xs k l b m in
-    let few : k ≤ length cs = ⊎-elim (λ h. h .1) (λ h. omega (arith, h .0)) m in
-    let all : count + k ≡ length (xs ++ take k cs) = omega (arith, c, taken-length xs cs k few) in (
-      sym (ap (λ (x : Gathered). x .taken) g),
-      ap (λ (x : Receiver). record { held = x .held; count = count + k }) e
-          ∙ ap (λ (j : ℕ). record { held = padded (xs ++ take k cs); count = j }) all
-          ∙ sym (ap (λ (x : Gathered). receiving (x .held)) g),
-    )
-
 -- ---- where holding begins
 
--- behind what is skipped, where nothing is held
-pub begins-behind : (xs bs : List ℕ) (from : ℕ) → from ≡ skipCount bs → (from ≤ length bs) × Begun xs (drop from bs)
-begins-behind xs bs from e =
-    let few = skip-few bs in (
-      omega (arith, e, few),
-      inr
-          (⊎-elim (λ f. inl (drop-of-length-le bs {i = from} (omega (arith, e, f))))
-          (λ f.
-          inr
-          (getD-drop from bs 0 0 ∙ ap (λ (i : ℕ). getD bs i 0) (let z : from + 0 ≡ skipCount bs = omega (arith, e) in z) ∙ f))
-          (skip-finds bs)),
-    )
+begins : (xs bs : List ℕ) (from : ℕ) → from ≡ startOf (length xs) bs → Begun xs (drop from bs)
+begins [] bs from e =
+    inr
+    (⊎-elim (λ f. inl (drop-of-length-le bs {i = from} (omega (arith, e, f))))
+    (λ f. inr (getD-drop from bs 0 0 ∙ ap (λ (i : ℕ). getD bs i 0) (let z : from + 0 ≡ skipCount bs = omega (arith, e) in z) ∙ f))
+    (skip-finds bs))
+begins (x ∷ xs) bs from e = inl (suc-ne-zero (length xs))
 
-pub gathers-behind : (xs bs : List ℕ) (from : ℕ) → from ≡ skipCount bs → length xs ≡ 0
-    → later from (gathered xs (drop from bs)) ≡ gathered xs bs
-gathers-behind [] bs from e l = ap (λ (k : ℕ). later k (gathered [] (drop k bs))) e ∙ sym (skips bs)
-gathers-behind (x ∷ xs) bs from e l = absurd (suc-ne-zero (length xs) l)
+-- behind bytes that are held nothing is skipped
+skips-none : (x : ℕ) (xs bs : List ℕ) (from : ℕ) → from ≡ startOf (length (x ∷ xs)) bs → from ≡ 0
+skips-none x xs bs from e =
+    e ∙ cond-false (eqb (length (x ∷ xs)) 0) (skipCount bs) 0 (ne-eqb (length (x ∷ xs)) 0 (suc-ne-zero (length xs)))
+
+pub start-few : (xs bs : List ℕ) (from : ℕ) → from ≡ startOf (length xs) bs → from ≤ length bs
+start-few [] bs from e = let few = skip-few bs in omega (arith, e, few)
+start-few (x ∷ xs) bs from e = let z = skips-none x xs bs from e in omega (arith, z)
+
+gathers-behind : (xs bs : List ℕ) (from : ℕ) → from ≡ startOf (length xs) bs → gathered xs bs ≡ later from (gathered xs (drop from bs))
+gathers-behind [] bs from e = skips bs ∙ ap (λ (k : ℕ). later k (gathered [] (drop k bs))) (sym e)
+gathers-behind (x ∷ xs) bs from e =
+    let g = gathered (x ∷ xs) bs in
+    let z = skips-none x xs bs from e in
+    let k : g .taken ≡ from + g .taken = omega (arith, z) in
+    ap (λ (j : ℕ). record { taken = j; held = g .held }) k ∙ ap (λ (j : ℕ). later from (gathered (x ∷ xs) (drop j bs))) (sym z)
+
+-- THE LAW: bytes are skipped, and as many are held behind them as there is room for, or as there are
+pub gathered-is : (xs bs : List ℕ) (from k : ℕ) → from ≡ startOf (length xs) bs → length xs ≤ 14 → AsMany xs (drop from bs) k
+    → gathered xs bs ≡ record { taken = from + k; held = xs ++ take k (drop from bs) }
+gathered-is xs bs from k e l m = gathers-behind xs bs from e ∙ ap (later from) (fills (drop from bs) xs k l (begins xs bs from e) m)

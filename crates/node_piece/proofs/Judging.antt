@@ -5,12 +5,12 @@ use mathlib.Core.Path.{_≡_, _∙_, refl, sym, ap}
 use mathlib.Core.Bool.{true, false, cond, false≢true}
 use mathlib.Core.List.{List, [], _∷_}
 use mathlib.Core.Logic.{⊎-elim}
-use Prim.Native.Nat.{ℕ, suc, _≤_}
+use Prim.Native.Nat.{ℕ, suc}
 use native.Mathlib.Omega.{arith}
 use lib.Dec.{eqb}
-use lib.ListN.{length, length-append}
+use lib.ListN.{length}
 use borrow.Author.Tests.{eqb-true, lt-ltb}
-use Rattle.base.proofs.Choice.{by-cond, cond-true, cond-false, true-or-false}
+use Rattle.base.proofs.Choice.{by-cond, cond-true, true-or-false}
 use Rattle.memory_address.specs.Places.{full}
 use Rattle.frame_rules.specs.Wrapping.{innerOf, rightlyWrapped}
 use Rattle.node_rules.specs.declared.Node.{Node}
@@ -23,33 +23,11 @@ use Rattle.node_rules.proofs.Tidying.{held-held, holdable-few, holding-tidy, ti
 use Rattle.node_rules.proofs.StaysTidy.{with-holdable, only-ten}
 use Rattle.node_rules.proofs.Agreement.{with-byte}
 use Rattle.node_uart.proofs.Listening.{open-pin}
-use Rattle.node_piece_rules.specs.Piece.{PieceStep, takesNone, takenOf, noByte, lastTaken, pieceStep}
+use Rattle.node_piece_rules.specs.Piece.{PieceStep, takesNone, takenOf, lastTaken, pieceStep}
 use Rattle.node_piece_rules.proofs.Stopping.{stops-behind}
 use Rattle.node_piece_rules.proofs.Opening.{Opened, open-waits, open-hears, still-open}
 use Rattle.node_piece_rules.proofs.Cutting.{from-tidied}
-use Rattle.node_piece.specs.Internal.Gathered.{Gathered, gatheredNone, oneMore, gathered}
-
--- where no frame is complete all bytes are gathered
-pub gathered-all : (xs bs : List ℕ) → incomplete (gathered xs bs .held) ≡ true → gathered xs bs .taken ≡ length bs
-unfolding gathered
-gathered-all xs [] i = refl
-gathered-all xs (b ∷ bs) i =
-    let ys = heldWith xs b in
-    by-cond (λ (g : Gathered). incomplete (g .held) ≡ true → suc (g .taken) ≡ suc (length bs)) (incomplete ys) (gathered ys bs)
-    (gatheredNone ys) (λ _ k. ap suc (gathered-all ys bs k)) (λ f k. absurd (false≢true (sym f ∙ k))) i
-
--- and no more than fifteen are held
-pub gathered-most : (xs bs : List ℕ) → Holdable xs → length (gathered xs bs .held) ≤ 15
-unfolding gathered
-gathered-most xs [] h = omega (arith, holdable-few xs h)
-gathered-most xs (b ∷ bs) h =
-    let ys = heldWith xs b in
-    by-cond (λ (g : Gathered). length (g .held) ≤ 15) (incomplete ys) (gathered ys bs) (gatheredNone ys)
-    (λ t. gathered-most ys bs (with-holdable xs b h t)) (λ _. with-most xs h)
-  where
-    with-most : (zs : List ℕ) → Holdable zs → length (heldWith zs b) ≤ 15
-    with-most [] k = by-cond (λ (ys : List ℕ). length ys ≤ 15) (eqb b 0xAA) (b ∷ []) [] (λ _. omega arith) (λ _. omega arith)
-    with-most (z ∷ zs) k = omega (arith, k .1, length-append (z ∷ zs) (b ∷ []))
+use Rattle.node_piece.specs.Internal.Gathered.{Gathered, gatheredNone, gathered}
 
 module _ (n : Node) (flash eeprom : List ℕ) (o : Opened n flash eeprom) where
   -- the record with these bytes held

@@ -1,4 +1,5 @@
 pub mod Tight
 mod Judging
 mod Filling
+mod Holding
 mod Returning

@@ -1,87 +1,114 @@
--- A piece on the record's own fields: each law is one return of `uart_piece`, over the tidied record. 1, 2 and 3 take no byte; else the
--- bytes are gathered, and what is then held is judged.
+-- A piece on the record as it came: each law is one return of `uart_piece`. 1, 2 and 3 take no byte, and tidying makes no difference to
+-- them; else the bytes are gathered, and what is then held is judged.
 -- Assumes nothing.
 use mathlib.Core.Path.{_≡_, _∙_, refl, sym, ap}
 use mathlib.Core.Bool.{Bool, true, false, cond, false≢true}
-use mathlib.Core.List.{List, [], _∷_, _++_, append-nil}
-use mathlib.Core.Logic.{⊎-elim}
-use Prim.Native.Nat.{ℕ, _-_, _≤_, _<_}
-use native.Mathlib.Omega.{arith}
+use mathlib.Core.List.{List, []}
+use mathlib.Core.Logic.{_⊎_, ⊎-elim, inl, inr}
+use Prim.Native.Nat.{ℕ}
+use native.Mathlib.Nat.{suc-ne-zero}
 use lib.Dec.{eqb}
-use lib.ListN.{length, replicate}
-use borrow.Author.Tests.{eq-eqb, ne-eqb, lt-ltb, le-ltb}
+use lib.ListN.{replicate}
+use borrow.Author.Tests.{eq-eqb}
 use Rattle.base.proofs.Choice.{cond-true, cond-false}
 use Rattle.memory_address.specs.Places.{full}
 use Rattle.frame_rules.specs.Wrapping.{innerOf, rightlyWrapped}
-use Rattle.frame_rules.specs.Numbers.{unwrapNumber, outputAfter}
+use Rattle.node_rules.specs.declared.Staged.the-variants.{Nothing}
+use Rattle.node_rules.specs.declared.Mode.the-variants.{Programming}
 use Rattle.node_rules.specs.declared.Receiver.{Receiver}
 use Rattle.node_rules.specs.declared.Node.{Node}
 use Rattle.node_rules.specs.declared.Answer.{Answer}
 use Rattle.node_rules.specs.declared.UartAnswer.{UartAnswer}
-use Rattle.node_rules.specs.Record.{padded, receiving, holding, heldIn, heldOf, tidied}
-use Rattle.node_rules.specs.Outcomes.{isDeaf}
-use Rattle.node_rules.specs.Step.{after, canStep}
+use Rattle.node_rules.specs.Record.{receiving, holding, heldOf, withMode, tidied}
+use Rattle.node_rules.specs.Outcomes.{isDeaf, decided}
+use Rattle.node_rules.specs.Step.{Step, after, done, canStep}
 use Rattle.node_rules.specs.Uart.{UartStep, uartAfter, incomplete, isClosed, heldAfterBad, onUart, viaUart, silent}
-use Rattle.node_rules.proofs.Tidying.{held-holdable, held-held}
-use Rattle.node_record.proofs.Tidied.{withReceiver}
-use Rattle.node_uart.proofs.Listening.{unwrap-right}
-use Rattle.node_piece_rules.specs.Piece.{PieceStep, pieceAfter, noByte, lastTaken, pieceStep}
-use Rattle.node_piece_rules.proofs.Opening.{Refused, Opened, refused-or-open}
+use Rattle.node_rules.proofs.Tidying.{held-held, holding-tidy, tidied-mode}
+use Rattle.node_rules.proofs.Modes.{tidy-deaf}
+use Rattle.node_record.specs.Internal.Tidy.{isTidy}
+use Rattle.node_record.proofs.Tidied.{withReceiver, kept-tidied, lost-tidied}
+use Rattle.node_piece_rules.specs.Piece.{pieceAfter, noByte, lastTaken, pieceStep}
+use Rattle.node_piece_rules.proofs.Opening.{Opened, refused-or-open}
 use Rattle.node_piece_rules.proofs.Answering.{refused-takes-none}
-use Rattle.node_piece.specs.Internal.Gathered.{gathered, silentPiece}
-use Rattle.node_piece.proofs.Judging.{gathered-most, complete, piece-gathered}
+use Rattle.node_piece.specs.Internal.Gathered.{refusalOf, gathered, numberOf, leftOf, Told, silentPiece}
+use Rattle.node_piece.proofs.Judging.{complete, piece-gathered}
 
--- a receiver that was tidied is tidy, and holds the same
-pub tidy-receiver : (r q : Receiver) → r ≡ receiving (heldIn q) → (r ≡ receiving (heldIn r)) × (heldIn r ≡ heldIn q)
-tidy-receiver r q e =
-    let same : heldIn r ≡ heldIn q = ap heldIn e ∙ held-held (heldIn q) (held-holdable q) in
-    (e ∙ ap receiving (sym same), same)
+-- where nothing is held, a frame does to a record what it does to that record tidied
+emptied-tidy : (n : Node) → tidied (holding n []) ≡ holding (tidied n) []
+unfolding tidied
+emptied-tidy n = ap (holding (tidied n)) (held-held [] tt)
 
--- ---- 1, 2 and 3
+frame-when-empty : (n : Node) (f flash eeprom : List ℕ)
+    → canStep (holding n []) f flash eeprom ≡ canStep (holding (tidied n) []) f flash eeprom
+unfolding canStep
+frame-when-empty n f flash eeprom =
+    ap (λ (x : Node). done (decided x (full flash eeprom) f) x f flash eeprom)
+    (emptied-tidy n ∙ sym (holding-tidy (tidied n) [] tt (tidied-mode n)))
 
-module _ (n t : Node) (bs flash eeprom : List ℕ) (e : t ≡ tidied n) where
-  -- where the node isn't open no byte is taken
-  none-taken : (number : ℕ) → (Opened n flash eeprom → ⊥) → noByte n flash eeprom ≡ silent number (tidied n) flash eeprom
+-- what a frame does, its replies wrapped
+pub wraps : (u : UartAnswer) (a : Answer) (flash eeprom : List ℕ) (s : Step) → u ≡ onUart a → after a flash eeprom ≡ s
+    → uartAfter u flash eeprom ≡ viaUart s
+wraps u a flash eeprom s e h = ap (λ (x : UartAnswer). uartAfter x flash eeprom) e ∙ ap viaUart h
+
+-- ---- a record whose mode is kept where it is tidy, and which holds something else, is the tidied record that holds that
+
+module _ (n : Node) (r : Receiver) where
+  pub kept-as-tidied : isTidy (n .mode) ≡ true → withReceiver n r ≡ withReceiver (tidied n) r
+  kept-as-tidied t = ap (λ (x : Node). withReceiver x r) (kept-tidied n (receiving (heldOf n)) refl t)
+
+  pub lost-as-tidied : isTidy (n .mode) ≡ false → withMode (withReceiver n r) (Programming Nothing) ≡ withReceiver (tidied n) r
+  lost-as-tidied t = ap (λ (x : Node). withReceiver x r) (lost-tidied n (receiving (heldOf n)) refl t)
+
+module _ (n : Node) (bs flash eeprom : List ℕ) where
+  -- ---- 1, 2 and 3
+
+  -- whether 1, 2 or 3 is met is seen on the record as it came: it is, or none of them is
+  abbrev Shut : Type 0
+  Shut =
+      (refusalOf (full flash eeprom) n ≡ 0 → ⊥) × (Opened n flash eeprom → ⊥)
+      × (noByte n flash eeprom ≡ silent (refusalOf (full flash eeprom) n) (tidied n) flash eeprom)
+
+  abbrev Open : Type 0
+  Open = (refusalOf (full flash eeprom) n ≡ 0) × Opened n flash eeprom
+
+  shut-or-open : Shut ⊎ Open
+  unfolding tidied
+  shut-or-open = go (full flash eeprom) refl (isClosed (n .choices .pin)) refl (isDeaf (n .mode)) refl
+    where
+      go : (x : Bool) → full flash eeprom ≡ x → (y : Bool) → isClosed (n .choices .pin) ≡ y → (z : Bool) → isDeaf (n .mode) ≡ z
+          → Shut ⊎ Open
+      go false f y c z d = inl (rw f (suc-ne-zero 0), λ o. false≢true (sym f ∙ o .0), rw f refl)
+      go true f true c z d = inl (rw (f, c) (suc-ne-zero 1), λ o. false≢true (sym (o .1) ∙ c), rw (f, c) refl)
+      go true f false c true d =
+          let e = tidy-deaf (n .mode) ∙ d in
+          inl (rw (f, c, d) (suc-ne-zero 2), λ o. false≢true (sym (o .2) ∙ e), rw (f, c, d, e) refl)
+      go true f false c false d = inr (rw (f, c, d) refl, (f, c, tidy-deaf (n .mode) ∙ d))
+
+  -- none of them
+  pub opened : (number : ℕ) → number ≡ refusalOf (full flash eeprom) n → number ≡ 0 → Opened n flash eeprom
+  opened number e z = ⊎-elim (λ s. absurd (s .0 (sym e ∙ z))) (λ o. o .1) shut-or-open
+
+  -- one of them
+  pub refused : (number : ℕ) (t : Node) → number ≡ refusalOf (full flash eeprom) n → (number ≡ 0 → ⊥) → t ≡ tidied n
       → pieceAfter (silentPiece 0 number t) flash eeprom ≡ pieceStep n bs flash eeprom
-  none-taken number shut k =
-      ap (λ (m : Node). pieceAfter (silentPiece 0 number m) flash eeprom) e
+  refused number t e m h =
+      ⊎-elim
+      (λ s.
+      ap (λ (x : Node). pieceAfter (silentPiece 0 number x) flash eeprom) h
+      ∙ ap (λ (k : ℕ). pieceAfter (silentPiece 0 k (tidied n)) flash eeprom) e
       ∙ sym
-      (⊎-elim (λ r. refused-takes-none n bs flash eeprom r) (λ o. absurd (shut o)) (refused-or-open n flash eeprom)
-      ∙ ap (λ (x : UartStep). lastTaken x []) k)
-
-  pub not-full : full flash eeprom ≡ false → pieceAfter (silentPiece 0 1 t) flash eeprom ≡ pieceStep n bs flash eeprom
-  not-full f = none-taken 1 (λ o. false≢true (sym f ∙ o .0)) (rw f refl)
-
-  pub closed : full flash eeprom ≡ true → isClosed (t .choices .pin) ≡ true
-      → pieceAfter (silentPiece 0 2 t) flash eeprom ≡ pieceStep n bs flash eeprom
-  closed f c =
-      let d : isClosed (tidied n .choices .pin) ≡ true = rw e at c in
-      none-taken 2 (λ o. false≢true (sym (o .1) ∙ d)) (rw (f, d) refl)
-
-  pub deaf : full flash eeprom ≡ true → isClosed (t .choices .pin) ≡ false → isDeaf (t .mode) ≡ true
-      → pieceAfter (silentPiece 0 3 t) flash eeprom ≡ pieceStep n bs flash eeprom
-  deaf f c h =
-      let d : isClosed (tidied n .choices .pin) ≡ false = rw e at c in
-      let g : isDeaf (tidied n .mode) ≡ true = rw e at h in
-      none-taken 3 (λ o. false≢true (sym (o .2) ∙ g)) (rw (f, d, g) refl)
+      (⊎-elim (λ r. refused-takes-none n bs flash eeprom r) (λ o. absurd (s .1 o)) (refused-or-open n flash eeprom)
+      ∙ ap (λ (x : UartStep). lastTaken x []) (s .2)))
+      (λ o. absurd (m (e ∙ o .0)))
+      shut-or-open
 
   -- ---- an open, running node
 
-  module _ (isFull : full flash eeprom ≡ true) (opened : isClosed (t .choices .pin) ≡ false) (hears : isDeaf (t .mode) ≡ false)
-      (q : Receiver) (taken : ℕ) (r : Receiver) (same : heldIn q ≡ heldOf n) (k : taken ≡ gathered (heldIn q) bs .taken)
-      (g : r ≡ receiving (gathered (heldIn q) bs .held)) where
+  module _ (isOpen : Opened n flash eeprom) (taken number : ℕ) (r : Receiver) (frame : List ℕ)
+      (t : Told (n .choices) (gathered (heldOf n) bs) (replicate 12 0) taken number r frame) where
     -- what is held with the bytes that are taken
     abbrev ys : List ℕ
     ys = gathered (heldOf n) bs .held
-
-    receives : r ≡ receiving ys
-    receives = g ∙ ap (λ (xs : List ℕ). receiving (gathered xs bs .held)) same
-
-    takes : taken ≡ gathered (heldOf n) bs .taken
-    takes = k ∙ ap (λ (xs : List ℕ). gathered xs bs .taken) same
-
-    isOpen : Opened n flash eeprom
-    isOpen = (isFull, sym (ap (λ (m : Node). isClosed (m .choices .pin)) e) ∙ opened, sym (ap (λ (m : Node). isDeaf (m .mode)) e) ∙ hears)
 
     -- what is judged is the answer
     judged : (x : UartStep)
@@ -90,65 +117,57 @@ module _ (n t : Node) (bs flash eeprom : List ℕ) (e : t ≡ tidied n) where
     judged x j =
         sym
         (piece-gathered n flash eeprom isOpen bs ∙ ap (λ (y : UartStep). record { taken = gathered (heldOf n) bs .taken; last = y }) j
-        ∙ ap (λ (m : ℕ). record { taken = m; last = x }) (sym takes))
+        ∙ ap (λ (m : ℕ). record { taken = m; last = x }) (sym (t .0)))
 
-    -- 10
-    pub held : r .count < 15 → pieceAfter (silentPiece taken 10 (withReceiver t r)) flash eeprom ≡ pieceStep n bs flash eeprom
-    held l =
-        let few : length ys < 15 = rw (ap (λ (x : Receiver). x .count) receives) at l in
-        judged (silent 10 (withReceiver t r) flash eeprom)
-        (cond-true (incomplete ys) (silent 10 (holding (tidied n) ys) flash eeprom) _ (lt-ltb (length ys) 15 few)
-        ∙ ap (λ (m : Node). silent 10 (holding m ys) flash eeprom) (sym e)
-        ∙ ap (λ (x : Receiver). silent 10 (withReceiver t x) flash eeprom) (sym receives))
+    completes : (x : UartStep) → incomplete ys ≡ false → complete n flash eeprom isOpen ys ≡ x
+        → record { taken = taken; last = x } ≡ pieceStep n bs flash eeprom
+    completes x i j = judged x (cond-false (incomplete ys) (silent 10 (holding (tidied n) ys) flash eeprom) _ i ∙ j)
 
-    module _ (last : 15 ≤ r .count) where
-      many : 15 ≤ length ys
-      many = rw (ap (λ (x : Receiver). x .count) receives) at last
+    -- 10 and 11
+    pub waits : (m : Node) → (number ≡ 0 → ⊥) → m ≡ withReceiver (tidied n) r
+        → pieceAfter (silentPiece taken number m) flash eeprom ≡ pieceStep n bs flash eeprom
+    unfolding tidied
+    waits m d e =
+        ap (λ (x : Node). pieceAfter (silentPiece taken number x) flash eeprom) e
+        ∙ go (incomplete ys) refl (rightlyWrapped ys) refl
+      where
+        -- with the number and what stays held, as they are told
+        rest : (zs : List ℕ) (k : ℕ) → leftOf (n .choices) ys ≡ zs → numberOf ys ≡ k
+            → silent k (holding (tidied n) zs) flash eeprom ≡ silent number (withReceiver (tidied n) r) flash eeprom
+        rest zs k left gives =
+            ap (λ (j : ℕ). silent j (holding (tidied n) zs) flash eeprom) (sym (t .1 ∙ gives))
+            ∙ ap (λ (x : Receiver). silent number (withReceiver (tidied n) x) flash eeprom) (sym (t .3 d ∙ ap receiving left))
 
-      pub fifteen : length ys ≡ 15
-      fifteen = omega (arith, many, gathered-most (heldOf n) bs (held-holdable (n .receiver)))
+        go : (x : Bool) → incomplete ys ≡ x → (y : Bool) → rightlyWrapped ys ≡ y
+            → record { taken = taken; last = silent number (withReceiver (tidied n) r) flash eeprom } ≡ pieceStep n bs flash eeprom
+        go true i y w =
+            judged (silent number (withReceiver (tidied n) r) flash eeprom)
+            (cond-true (incomplete ys) (silent 10 (holding (tidied n) ys) flash eeprom) _ i ∙ rest ys 10 (rw i refl) (rw i refl))
+        go false i true w = absurd (d (t .1 ∙ rw (i, w) refl))
+        go false i false w =
+            completes (silent number (withReceiver (tidied n) r) flash eeprom) i
+            (cond-false (rightlyWrapped ys) _ _ w ∙ rest (heldAfterBad (n .choices) ys) 11 (rw i refl) (rw (i, w) refl))
 
-      -- the fifteen bytes
-      pub whole-is : r .held ≡ ys
-      whole-is =
-          let none : 15 - length ys ≡ 0 = omega (arith, many) in
-          ap (λ (x : Receiver). x .held) receives ∙ ap (λ (j : ℕ). ys ++ replicate j 0) none ∙ append-nil ys
+    -- a complete frame
+    module _ (z : number ≡ 0) where
+      -- these are fifteen, and right
+      right : (incomplete ys ≡ false) × (rightlyWrapped ys ≡ true)
+      right = go (incomplete ys) refl (rightlyWrapped ys) refl
+        where
+          go : (x : Bool) → incomplete ys ≡ x → (y : Bool) → rightlyWrapped ys ≡ y
+              → (incomplete ys ≡ false) × (rightlyWrapped ys ≡ true)
+          go true i y w = absurd (suc-ne-zero 9 (sym (t .1 ∙ rw i refl) ∙ z))
+          go false i true w = (i, w)
+          go false i false w = absurd (suc-ne-zero 10 (sym (t .1 ∙ rw (i, w) refl) ∙ z))
 
-      pub whole-length : length (r .held) ≡ 15
-      whole-length = ap length whole-is ∙ fifteen
-
-      completes : (x : UartStep) → complete n flash eeprom isOpen ys ≡ x → record { taken = taken; last = x } ≡ pieceStep n bs flash eeprom
-      completes x j =
-          judged x
-          (cond-false (incomplete ys) (silent 10 (holding (tidied n) ys) flash eeprom) _ (le-ltb (length ys) 15 many) ∙ j)
-
-      right-is : (number : ℕ) → number ≡ unwrapNumber (r .held) 12 → eqb number 0 ≡ rightlyWrapped ys
-      right-is number u =
-          ap (λ (j : ℕ). eqb j 0) u ∙ ap (λ (w : List ℕ). eqb (unwrapNumber w 12) 0) whole-is ∙ unwrap-right ys fifteen
-
-      -- 11
-      pub bad : (number : ℕ) (kept : Receiver) → number ≡ unwrapNumber (r .held) 12 → (number ≡ 0 → ⊥)
-          → kept ≡ receiving (heldAfterBad (t .choices) (r .held))
-          → pieceAfter (silentPiece taken 11 (withReceiver t kept)) flash eeprom ≡ pieceStep n bs flash eeprom
-      bad number kept u m h =
-          completes (silent 11 (withReceiver t kept) flash eeprom)
-          (cond-false (rightlyWrapped ys) _ _ (sym (right-is number u) ∙ ne-eqb number 0 m)
-          ∙ ap (λ (m : Node). silent 11 (holding m (heldAfterBad (m .choices) ys)) flash eeprom) (sym e)
-          ∙ ap (λ (w : List ℕ). silent 11 (holding t (heldAfterBad (t .choices) w)) flash eeprom) (sym whole-is)
-          ∙ ap (λ (x : Receiver). silent 11 (withReceiver t x) flash eeprom) (sym h))
-
-      -- a complete frame
-      pub whole : (number : ℕ) (frame flash′ eeprom′ : List ℕ) (a : Answer) (none : Receiver) (u : UartAnswer)
-          → number ≡ unwrapNumber (r .held) 12 → number ≡ 0
-          → frame ≡ outputAfter number (innerOf (r .held)) (replicate 12 0) → none ≡ receiving []
-          → after a flash′ eeprom′ ≡ canStep (withReceiver t none) frame flash eeprom → u ≡ onUart a
-          → record { taken = taken; last = uartAfter u flash′ eeprom′ } ≡ pieceStep n bs flash eeprom
-      whole number frame flash′ eeprom′ a none u w z f m s v =
-          let i : frame ≡ innerOf ys = f ∙ rw (eq-eqb number 0 z) (ap innerOf whole-is) in
-          completes (uartAfter u flash′ eeprom′)
-          (cond-true (rightlyWrapped ys) _ _ (sym (right-is number w) ∙ eq-eqb number 0 z)
-          ∙ ap (λ (m : Node). viaUart (canStep (holding m []) (innerOf ys) flash eeprom)) (sym e)
-          ∙ ap (λ (x : List ℕ). viaUart (canStep (holding t []) x flash eeprom)) (sym i)
-          ∙ ap (λ (x : Receiver). viaUart (canStep (withReceiver t x) frame flash eeprom)) (sym m)
-          ∙ ap viaUart (sym s)
-          ∙ ap (λ (x : UartAnswer). uartAfter x flash′ eeprom′) (sym v))
+      pub whole : (none : Receiver) (x : UartStep) → none ≡ receiving []
+          → x ≡ viaUart (canStep (withReceiver n none) frame flash eeprom)
+          → record { taken = taken; last = x } ≡ pieceStep n bs flash eeprom
+      whole none x m e =
+          let i : frame ≡ innerOf ys = t .2 ∙ cond-true (eqb number 0) (innerOf ys) (replicate 12 0) (eq-eqb number 0 z) in
+          completes x (right .0)
+          (cond-true (rightlyWrapped ys) _ _ (right .1)
+          ∙ ap viaUart (sym (frame-when-empty n (innerOf ys) flash eeprom))
+          ∙ ap (λ (f : List ℕ). viaUart (canStep (holding n []) f flash eeprom)) (sym i)
+          ∙ ap (λ (q : Receiver). viaUart (canStep (withReceiver n q) frame flash eeprom)) (sym m)
+          ∙ sym e)

@@ -5,8 +5,6 @@ use contract.Lifetimes.{Lfts}
 use borrow.Fn.World.{ArgsD, ResD}
 use denote.Triple.Clauses.{AtExit}
 use borrow.Fn.Kinds.{endedOf}
-use Rattle.node_rules.specs.declared.UartAnswer.{UartAnswer}
-use Rattle.node_piece_rules.specs.declared.PieceAnswer.{PieceAnswer}
 use Rattle.node_piece_rules.specs.Piece.{PieceStep}
 use Rattle.node_piece.proofs.uart_piece.{signature as uart-piece-signature}
 use Rattle.node_piece.proofs.uart_piece.Kinds as uart-piece-kinds

@@ -1,14 +1,20 @@
-// The bytes of a piece that are held or skipped, up to the one with which fifteen are held.
+// The bytes of a piece behind those that are held, up to the one with which fifteen are held; these are judged.
 ghost use mathlib.Core.Path.{_≡_};
-ghost use Prim.Native.Nat.{_+_, _≤_};
-ghost use lib.ListN.{length, drop};
+ghost use Prim.Native.Nat.{_≤_};
+ghost use lib.ListN.{length};
+ghost use Rattle.base.specs.Parts.{part};
+ghost use Rattle.frame_rules.specs.Wrapping.{innerOf};
+ghost use Rattle.frame_rules.specs.Numbers.{outputAfter};
 ghost use Rattle.node_rules.specs.Record.{receiving, heldIn};
-ghost use Rattle.node_piece.specs.Internal.Gathered.{gathered, skipCount, Begun};
+ghost use Rattle.node_piece.specs.Internal.Gathered.{gathered, skipCount, startOf, atOnce, Told};
+use node_rules::Choices;
 use node_rules::Receiver;
 
-// How many bytes are taken, and what is then held: at most fourteen bytes, or the fifteen of a frame.
+// How many bytes are taken, and what they give: 10, 11, or 0 for a right frame. After 10 and 11 the receiver has what stays held; after 0
+// the caller empties it.
 pub struct Filled {
     pub taken: usize,
+    pub number: u8,
     pub receiver: Receiver,
 }
 
@@ -26,43 +32,84 @@ fn skipped(piece: &[u8]) -> usize
     i
 }
 
-// The bytes from `from` on are held behind those that are held, as many as there is room for, or as there are.
-fn hold(receiver: Receiver, from: usize, piece: &[u8]) -> Filled
-    requires { ⌜ (receiver ≡ receiving (heldIn receiver)) × (from ≤ length (now piece)) ×
-        Begun (heldIn receiver) (drop from (now piece)) ⌝ }
-    ensures { λ r. ⌜ (r .taken ≡ from + gathered (heldIn receiver) (drop from (now (piece .entry))) .taken) ×
-        (r .receiver ≡ receiving (gathered (heldIn receiver) (drop from (now (piece .entry))) .held)) ⌝ }
+// How many bytes are skipped with so many held: those before the first 0xAA where nothing is held, and else none.
+fn start(count: usize, piece: &[u8]) -> usize
+    ensures { λ r. ⌜ r ≡ startOf count (now (piece .entry)) ⌝ }
 {
-    let count = receiver.count;
-    let room = 15 - count;
-    let left = piece.len() - from;
-    let mut more = room;
-    if left < room {
-        more = left;
+    if count == 0 {
+        return skipped(piece);
     }
+    0
+}
+
+// The frame in the fifteen bytes from `from` on, straight from the piece, where nothing is held. 4 where something is, or there are fewer
+// bytes, and 11 for a bad frame; both leave `frame` as it was.
+fn at_once(count: usize, from: usize, piece: &[u8], frame: &mut [u8]) -> u8
+    requires { ⌜ (from ≤ length (now piece)) × (length (now frame) ≡ 12) ⌝ }
+    ensures { λ r. ⌜ (r ≡ atOnce count (part (now (piece .entry)) from 15)) ×
+        (now (frame .exit) ≡ outputAfter r (innerOf (part (now (piece .entry)) from 15)) (now (frame .entry))) ⌝ }
+{
+    if count != 0 {
+        return 4;
+    }
+    if piece.len() - from < 15 {
+        return 4;
+    }
+    frame_uart::unwrap(&piece[from..from + 15], frame)
+}
+
+// The bytes from `from` on are held behind those that are held. 10 where the piece ends before there are fifteen, 11 for a bad frame; both
+// leave `frame` as it was.
+fn hold(c: Choices, receiver: Receiver, from: usize, piece: &[u8], frame: &mut [u8]) -> Filled
+    requires { ⌜ (receiver ≡ receiving (heldIn receiver)) × (from ≡ startOf (receiver .count) (now piece)) ×
+        (length (now frame) ≡ 12) ⌝ }
+    ensures { λ r. ⌜
+        Told c (gathered (heldIn receiver) (now (piece .entry))) (now (frame .entry))
+        (r .taken) (r .number) (r .receiver) (now (frame .exit)) ⌝ }
+{
     let mut r = receiver;
-    let mut k: usize = 0;
-    while k < more {
-        r.held[count + k] = piece[from + k];
-        k += 1;
+    let mut count = r.count;
+    let mut i = from;
+    while count < 15 {
+        if piece.len() <= i {
+            r.count = count;
+            return Filled {
+                taken: i,
+                number: 10,
+                receiver: r,
+            };
+        }
+        r.held[count] = piece[i];
+        count += 1;
+        i += 1;
     }
-    r.count = count + more;
+    let whole = r.held;
+    let number = frame_uart::unwrap(&whole, frame);
+    let kept = node_port::held_after_bad(c, whole);
     Filled {
-        taken: from + more,
-        receiver: r,
+        taken: i,
+        number,
+        receiver: kept,
     }
 }
 
-// The bytes that are gathered with what is held. Where nothing is held, bytes before the first 0xAA are skipped.
-pub fn gather(r: Receiver, piece: &[u8]) -> Filled
-    requires { ⌜ r ≡ receiving (heldIn r) ⌝ }
-    ensures { λ g. ⌜ (g .taken ≡ gathered (heldIn r) (now (piece .entry)) .taken) ×
-        (g .receiver ≡ receiving (gathered (heldIn r) (now (piece .entry)) .held)) ⌝ }
+// The bytes that are gathered with what is held, tidied: a right frame straight from the piece, or else one byte after the other.
+pub fn gather(c: Choices, receiver: Receiver, piece: &[u8], frame: &mut [u8]) -> Filled
+    requires { ⌜ length (now frame) ≡ 12 ⌝ }
+    ensures { λ r. ⌜
+        Told c (gathered (heldIn receiver) (now (piece .entry))) (now (frame .entry))
+        (r .taken) (r .number) (r .receiver) (now (frame .exit)) ⌝ }
 {
+    let r = node_record::tidy_receiver(receiver);
     let count = r.count;
-    if count == 0 {
-        let from = skipped(piece);
-        return hold(r, from, piece);
+    let from = start(count, piece);
+    let number = at_once(count, from, piece, frame);
+    if number == 0 {
+        return Filled {
+            taken: from + 15,
+            number,
+            receiver: r,
+        };
     }
-    hold(r, 0, piece)
+    hold(c, r, from, piece, frame)
 }

@@ -2,7 +2,6 @@
 -- Assumes nothing.
 use mathlib.Core.Path.{ap}
 use Rattle.node_rules.specs.declared.UartAnswer.{UartAnswer}
-use Rattle.node_piece_rules.specs.declared.PieceAnswer.{PieceAnswer}
 use borrow.Author.Needs.{needs}
 use Rattle.node_piece.proofs.silent.Statement.{statement}
 use Rattle.node_piece.proofs.silent.Tie as tie

@@ -1,15 +1,23 @@
 -- Bytes that are held or skipped one after the other, up to the one with which fifteen are held; proofs/Judging.antt shows that a piece
--- gives 10 for each of these but that one.
+-- gives 10 for each of these but that one, which is judged.
 use Prim.Native.Nat.{ℕ, suc}
-use mathlib.Core.Bool.{cond}
+use mathlib.Core.Bool.{Bool, not, cond}
 use mathlib.Core.List.{List, [], _∷_}
-use mathlib.Core.Logic.{_⊎_}
 use mathlib.Core.Path.{_≡_}
 use lib.Dec.{eqb}
-use lib.ListN.{length, getD}
+use Rattle.frame_rules.specs.Wrapping.{innerOf, rightlyWrapped}
+use Rattle.frame_rules.specs.Numbers.{unwrapNumber, outputAfter}
+use Rattle.node_rules.specs.declared.Choices.{Choices}
+use Rattle.node_rules.specs.declared.Receiver.{Receiver}
 use Rattle.node_rules.specs.declared.Node.{Node}
-use Rattle.node_rules.specs.Uart.{heldWith, incomplete, silentOnUart}
+use Rattle.node_rules.specs.Record.{receiving}
+use Rattle.node_rules.specs.Outcomes.{isDeaf}
+use Rattle.node_rules.specs.Uart.{heldWith, incomplete, isClosed, heldAfterBad, silentOnUart}
 use Rattle.node_piece_rules.specs.declared.PieceAnswer.{PieceAnswer}
+
+-- 1, 2 or 3, or else 0; whether both memories are full is known
+abbrev pub refusalOf : Bool → Node → ℕ
+refusalOf full n = cond (not full) 1 (cond (isClosed (n .choices .pin)) 2 (cond (isDeaf (n .mode)) 3 0))
 
 -- how many bytes, and what is then held
 pub record Gathered : Type 0 where
@@ -33,9 +41,27 @@ unfoldable pub skipCount : List ℕ → ℕ
 skipCount [] = 0
 skipCount (b ∷ bs) = cond (eqb b 0xAA) 0 (suc (skipCount bs))
 
--- behind bytes that are held, or from 0xAA on
-abbrev pub Begun : List ℕ → List ℕ → Type 0
-Begun xs cs = (length xs ≡ 0 → ⊥) ⊎ ((cs ≡ []) ⊎ (getD cs 0 0 ≡ 0xAA))
+-- how many bytes are skipped with so many held
+abbrev pub startOf : ℕ → List ℕ → ℕ
+startOf count bs = cond (eqb count 0) (skipCount bs) 0
+
+-- what fifteen bytes unwrap to where nothing is held; 4 where something is, or they aren't fifteen
+abbrev pub atOnce : ℕ → List ℕ → ℕ
+atOnce count w = cond (eqb count 0) (unwrapNumber w 12) 4
+
+-- what these held bytes give: 10 where they are no frame yet, 0 for a right frame and 11 for a bad one
+abbrev pub numberOf : List ℕ → ℕ
+numberOf w = cond (incomplete w) 10 (cond (rightlyWrapped w) 0 11)
+
+-- and which of them stay held after 10 or 11
+abbrev pub leftOf : Choices → List ℕ → List ℕ
+leftOf c w = cond (incomplete w) w (heldAfterBad c w)
+
+-- what is told of bytes that were gathered: how many were taken, what they give, the frame after 0, and what holds the rest after 10 or 11
+abbrev pub Told : Choices → Gathered → List ℕ → ℕ → ℕ → Receiver → List ℕ → Type 0
+Told c g was taken number receiver frame =
+    (taken ≡ g .taken) × (number ≡ numberOf (g .held)) × (frame ≡ outputAfter number (innerOf (g .held)) was)
+    × ((number ≡ 0 → ⊥) → receiver ≡ receiving (leftOf c (g .held)))
 
 -- so many bytes taken, and no reply
 abbrev pub silentPiece : ℕ → ℕ → Node → PieceAnswer

@@ -1,46 +1,87 @@
--- `node_piece::gathering::gather` meets its contract: bytes are held from the first 0xAA on, or behind those that are held.
+-- `node_piece::gathering::gather` meets its contract: a right frame straight from the piece, or else one byte after the other.
 -- Assumes nothing.
-use mathlib.Core.Path.{_≡_, _∙_, sym, ap}
-use mathlib.Core.Logic.{inl}
+use mathlib.Core.Path.{_∙_, sym, ap}
 use native.Mathlib.Omega.{arith}
-use lib.ListN.{length, drop}
-use Rattle.node_rules.specs.declared.Receiver.{Receiver}
-use Rattle.node_rules.specs.Record.{receiving, heldIn}
-use Rattle.node_piece.specs.Internal.Gathered.{Gathered}
-use Rattle.node_piece.proofs.Filling.{begins-behind, gathers-behind}
+use lib.ListN.{length}
+use Rattle.node_piece.proofs.Holding.{tidy-receiver, from-few, frame-kept, there-enough, told-at-once, told-by-one}
 use borrow.Author.Needs.{needs}
 use Rattle.node_piece.proofs.gathering.gather.Statement.{statement}
 use Rattle.node_piece.proofs.gathering.gather.Tie as tie
 
-skipped-requires : tie.Need-skipped-requires
-skipped-requires c κs = search needs
+tidy-receiver-requires : tie.Need-tidy-receiver-requires
+tidy-receiver-requires c κs = search needs
 
-hold-requires : tie.Need-hold-requires
-hold-requires c κs =
-    let a = c .before .before .before .args in
-    let h = begins-behind (heldIn (a .r)) (a .piece .now) (c .skipped .result) (c .skipped .ensures) in
-    (c .before .before .before .pre, h .0, h .1)
+start-requires : tie.Need-start-requires
+start-requires c κs = search needs
+
+at-once-requires : tie.Need-at-once-requires
+at-once-requires c κs =
+    let a = c .before .before .before .before .before .args in
+    let t = c .before .before .tidy-receiver in
+    let s = c .before .start in (
+      from-few (a .receiver) (a .piece .now) (a .frame .now) (t .result) (t .ensures) (s .result) (s .ensures),
+      c .before .before .before .before .before .pre,
+    )
+
+add-t12 : tie.Need-add-t12
+add-t12 c =
+    let a = c .before .before .before .before .before .before .before .before .before .args in
+    let t = c .before .before .before .before .before .before .tidy-receiver in
+    let o = c .before .before .before .at-once in
+    let s = c .before .before .before .before .before .start in
+    omega (
+      arith,
+      there-enough (a .receiver) (a .piece .now) (a .frame .now) (t .result) (t .ensures) (s .result) (s .ensures)
+          (sym (o .ensures .0) ∙ c .if1 .taken),
+    )
+
+same-length : tie.Need-same-length
+same-length c = search needs
 
 returns : tie.Need-returns
 returns c =
-    let a = c .before .before .before .before .args in
-    let from = c .before .skipped .result in
-    let none : length (heldIn (a .r)) ≡ 0 =
-    sym (ap (λ (x : Receiver). x .count) (c .before .before .before .before .pre)) ∙ c .before .before .if1 .taken in
-    let g = gathers-behind (heldIn (a .r)) (a .piece .now) from (c .before .skipped .ensures) none in (
-      c .hold .ensures .0 ∙ ap (λ (x : Gathered). x .taken) g,
-      c .hold .ensures .1 ∙ ap (λ (x : Gathered). receiving (x .held)) g,
-    )
+    let a = c .before .before .before .before .before .before .before .before .before .args in
+    let t = c .before .before .before .before .before .before .tidy-receiver in
+    let o = c .before .before .before .at-once in
+    let s = c .before .before .before .before .before .start in
+    told-at-once (a .receiver) (a .piece .now) (a .frame .now) (t .result) (t .ensures) (s .result) (s .ensures) (a .c) (o .result) _
+    (o .ensures .0) (o .ensures .1) (c .if1 .taken)
 
-hold-requires-2 : tie.Need-hold-requires-2
-hold-requires-2 c κs = (
-  c .before .before .pre,
-  omega arith,
-  inl (λ e. c .if1 .left (ap (λ (x : Receiver). x .count) (c .before .before .pre) ∙ e)),
-)
+hold-requires : tie.Need-hold-requires
+hold-requires c κs =
+    let h = c .before .before .before .before .before .before .before .before .before .before in
+    let a = h .args in
+    let t = c .before .before .before .before .before .before .before .tidy-receiver in
+    let o = c .before .before .before .before .at-once in
+    let s = c .before .before .before .before .before .before .start in
+    let kept = frame-kept (a .receiver) (a .piece .now) (a .frame .now) (t .result) (t .ensures) (s .result) (s .ensures) (o .result) _
+    (o .ensures .1) (c .before .if1 .left) in
+    (tidy-receiver (t .result) (a .receiver) (t .ensures) .0, s .ensures, ap length kept ∙ h .pre)
+
+same-length-2 : tie.Need-same-length-2
+same-length-2 c = search needs
 
 returns-2 : tie.Need-returns-2
-returns-2 c = search needs
+returns-2 c =
+    let a = c .before .before .before .before .before .before .before .before .before .before .before .before .before .args in
+    let t = c .before .before .before .before .before .before .before .before .before .before .tidy-receiver in
+    let o = c .before .before .before .before .before .before .before .at-once in
+    let s = c .before .before .before .before .before .before .before .before .before .start in
+    let h = c .before .before .hold in
+    told-by-one (a .receiver) (a .piece .now) (a .frame .now) (t .result) (t .ensures) (s .result) (s .ensures) (a .c) (o .result) _
+    (h .result .taken) (h .result .number) (h .result .receiver) _ (o .ensures .1)
+    (c .before .before .before .before .if1 .left) (h .ensures)
 
 pub gather-spec : {M : Type 1} → statement M
-gather-spec = tie.close (tie.spec skipped-requires hold-requires returns hold-requires-2 returns-2)
+gather-spec =
+    tie.close
+    (tie.spec
+    tidy-receiver-requires
+    start-requires
+    at-once-requires
+    add-t12
+    same-length
+    returns
+    hold-requires
+    same-length-2
+    returns-2)

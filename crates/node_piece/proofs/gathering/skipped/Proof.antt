@@ -1,7 +1,6 @@
 -- `node_piece::gathering::skipped` meets its contract: the bytes before the first 0xAA are passed over one by one.
 -- Assumes nothing.
-use mathlib.Core.Path.{_≡_, sym}
-use mathlib.Core.Logic.{inl, inr}
+use mathlib.Core.Logic.{inr}
 use Prim.Native.Nat.{_-_, _≤_}
 use native.Mathlib.Omega.{arith}
 use lib.ListN.{length}
@@ -24,7 +23,9 @@ shared-slice-read-if1 : tie.Need-shared-slice-read-if1 Inv-loop μ-loop
 shared-slice-read-if1 c = search needs
 
 returns : tie.Need-returns Inv-loop μ-loop
-returns c = skipped-to (c .before .before .before .before .args .piece .now) (c .before .before .before .loop .i) (c .before .before .before .loop .inv) (inr (c .if1 .taken))
+returns c =
+    let l = c .before .before .before .loop in
+    skipped-to (c .before .before .before .before .args .piece .now) (l .i) (l .inv) (inr (c .if1 .taken))
 
 add-i : tie.Need-add-i Inv-loop μ-loop
 add-i c = omega arith
@@ -33,7 +34,9 @@ loop-less : tie.Need-loop-less Inv-loop μ-loop
 loop-less c = omega arith
 
 loop-again : tie.Need-loop-again Inv-loop μ-loop
-loop-again c = skips-one (c .before .before .before .before .args .piece .now) (c .before .before .before .loop .i) (c .before .before .before .loop .inv) (omega arith) (c .if1 .left)
+loop-again c =
+    let l = c .before .before .before .loop in
+    skips-one (c .before .before .before .before .args .piece .now) (l .i) (l .inv) (omega arith) (c .if1 .left)
 
 returns-2 : tie.Need-returns-2 Inv-loop μ-loop
 returns-2 c =
