@@ -27,7 +27,7 @@ use Rattle.node_piece_rules.specs.Piece.{PieceStep, takesNone, takenOf, lastTak
 use Rattle.node_piece_rules.proofs.Stopping.{stops-behind}
 use Rattle.node_piece_rules.proofs.Opening.{Opened, open-waits, open-hears, still-open}
 use Rattle.node_piece_rules.proofs.Cutting.{from-tidied}
-use Rattle.node_piece.specs.Internal.Gathered.{Gathered, gatheredNone, gathered}
+use Rattle.node_gather.specs.Internal.Gathered.{Gathered, gatheredNone, gathered}
 
 module _ (n : Node) (flash eeprom : List ℕ) (o : Opened n flash eeprom) where
   -- the record with these bytes held

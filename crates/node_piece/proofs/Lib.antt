@@ -1,5 +1,3 @@
 pub mod Tight
 mod Judging
-mod Filling
-mod Holding
 mod Returning

@@ -30,7 +30,9 @@ use Rattle.node_record.proofs.Tidied.{withReceiver, kept-tidied, lost-tidied}
 use Rattle.node_piece_rules.specs.Piece.{pieceAfter, noByte, lastTaken, pieceStep}
 use Rattle.node_piece_rules.proofs.Opening.{Opened, refused-or-open}
 use Rattle.node_piece_rules.proofs.Answering.{refused-takes-none}
-use Rattle.node_piece.specs.Internal.Gathered.{refusalOf, gathered, numberOf, leftOf, Told, silentPiece}
+use Rattle.node_gather.specs.Internal.Gathered.{gathered, numberOf, leftOf}
+use Rattle.node_gather.proofs.Telling.{Given}
+use Rattle.node_piece.specs.Internal.Answers.{refusalOf, silentPiece}
 use Rattle.node_piece.proofs.Judging.{complete, piece-gathered}
 
 -- where nothing is held, a frame does to a record what it does to that record tidied
@@ -105,7 +107,7 @@ module _ (n : Node) (bs flash eeprom : List ℕ) where
   -- ---- an open, running node
 
   module _ (isOpen : Opened n flash eeprom) (taken number : ℕ) (r : Receiver) (frame : List ℕ)
-      (t : Told (n .choices) (gathered (heldOf n) bs) (replicate 12 0) taken number r frame) where
+      (t : Given (n .choices) (gathered (heldOf n) bs) taken number r frame) where
     -- what is held with the bytes that are taken
     abbrev ys : List ℕ
     ys = gathered (heldOf n) bs .held

@@ -1,13 +1,11 @@
 // UART in pieces. The call takes any record, which it tidies, a piece of any length and lent memories of any length; it asks nothing of its
 // caller. The answer says how many bytes were taken, and what the last of them gave.
-mod gathering;
-
 ghost use mathlib.Core.Path.{_≡_};
 ghost use Rattle.memory_address.specs.Places.{full};
 ghost use Rattle.node_rules.specs.Step.{canStep};
 ghost use Rattle.node_rules.specs.Uart.{uartAfter, viaUart};
 ghost use Rattle.node_piece_rules.specs.Piece.{pieceAfter, pieceStep};
-ghost use Rattle.node_piece.specs.Internal.Gathered.{refusalOf, silentPiece};
+ghost use Rattle.node_piece.specs.Internal.Answers.{refusalOf, silentPiece};
 use node_piece_rules::PieceAnswer;
 use node_rules::Mode;
 use node_rules::Node;
@@ -75,8 +73,7 @@ pub fn uart_piece(node: Node, piece: &[u8], flash: &mut [u8], eeprom: &mut [u8])
         return silent(0, refused, tidy);
     }
     let choices = n.choices;
-    let mut frame = [0u8; 12];
-    let g = gathering::gather(choices, n.receiver, piece, &mut frame);
+    let g = node_gather::gather(choices, n.receiver, piece);
     if g.number != 0 {
         let held = g.receiver;
         n.receiver = held;
@@ -88,6 +85,7 @@ pub fn uart_piece(node: Node, piece: &[u8], flash: &mut [u8], eeprom: &mut [u8])
     }
     let none = node_record::none_held();
     n.receiver = none;
+    let frame = g.frame;
     let answer = obeyed(n, &frame, flash, eeprom);
     PieceAnswer {
         taken: g.taken,

@@ -6,6 +6,7 @@ use borrow.Author.Tests.{not-true, not-false}
 use Rattle.node_rules.specs.Record.{tidied}
 use Rattle.node_record.proofs.Tidied.{withReceiver}
 use Rattle.node_piece_rules.proofs.Opening.{Opened}
+use Rattle.node_gather.proofs.Telling.{given}
 use Rattle.node_piece.proofs.Returning.{kept-as-tidied, lost-as-tidied, opened, refused, waits, whole}
 use borrow.Author.Needs.{needs}
 use Rattle.node_piece.proofs.uart_piece.Statement.{statement}
@@ -24,12 +25,10 @@ open-here c =
 -- the mode is tidied
 tidied-here : (c : tie.Joined3)
     → c .if3 .n
-    ≡ withReceiver (tidied (c .before .before .before .before .before .before .before .before
-    .before .before .before .before .before .before .before .before .args .node))
-    (c .before .before .before .before .before .before .gather .result .receiver)
+    ≡ withReceiver (tidied (c .before .before .before .before .before .before .before .before .before .before .before .before .before .before .args .node)) (c .before .before .before .before .before .gather .result .receiver)
 tidied-here c =
-    let g = c .before .before .before .before .before .before in
-    let n = g .before .before .before .before .before .before .before .before .before .before .args .node in
+    let g = c .before .before .before .before .before in
+    let n = g .before .before .before .before .before .before .before .before .before .args .node in
     let r = g .gather .result .receiver in
     let t = c .before .is-tidy in
     ⊎-elim (λ x. x .2 ∙ x .1 .ensures ∙ lost-as-tidied n r (sym (t .ensures) ∙ not-true (t .result) (x .0 .taken)))
@@ -59,9 +58,6 @@ returns c =
     (refused (a .node) (a .piece .now) (a .flash .now) (a .eeprom .now) (r .result) (c .before .tidy .result) (r .ensures)
     (c .before .before .if1 .taken) (c .before .tidy .ensures))
 
-slice-aggregate-gather : tie.Need-slice-aggregate-gather
-slice-aggregate-gather c = search needs
-
 gather-requires : tie.Need-gather-requires
 gather-requires c κs = search needs
 
@@ -82,13 +78,15 @@ same-length-4 c = search needs
 
 returns-2 : tie.Need-returns-2
 returns-2 c =
-    let h = c .before .before .before .before .before .before .before in
-    let o = h .before .before .before in
+    let h = c .before .before .before .before .before .before in
+    let o = h .before .before in
     let a = o .before .before .before .before .before .before .before .args in
     let g = h .gather in
     rw (c .silent2 .ensures)
     (waits (a .node) (a .piece .now) (a .flash .now) (a .eeprom .now) (open-here o) (g .result .taken) (g .result .number)
-    (g .result .receiver) _ (g .ensures) (c .before .if3 .n) (c .before .before .before .before .if2 .taken) (tidied-here (c .before)))
+    (g .result .receiver) (g .result .frame)
+    (given (a .node .choices) (a .node .receiver) (a .piece .now) (g .result) (g .ensures)) (c .before .if3 .n)
+    (c .before .before .before .before .if2 .taken) (tidied-here (c .before)))
 
 none-held-requires : tie.Need-none-held-requires
 none-held-requires c κs = search needs
@@ -108,12 +106,13 @@ same-length-6 c = search needs
 returns-3 : tie.Need-returns-3
 returns-3 c =
     let h = c .before .before .before .before .before .before .before .before .before .before .before .before in
-    let o = h .before .before .before in
+    let o = h .before .before in
     let a = o .before .before .before .before .before .before .before .args in
     let g = h .gather in
-    let none = c .before .before .before .before .before .before .before .before .none-held in
+    let none = c .before .before .before .before .before .before .before .before .before .none-held in
     whole (a .node) (a .piece .now) (a .flash .now) (a .eeprom .now) (open-here o) (g .result .taken) (g .result .number)
-    (g .result .receiver) _ (g .ensures) (c .before .before .before .before .before .before .before .before .before .if2 .left)
+    (g .result .receiver) (g .result .frame)
+    (given (a .node .choices) (a .node .receiver) (a .piece .now) (g .result) (g .ensures)) (c .before .before .before .before .before .before .before .before .before .before .if2 .left)
     (none .result) _ (none .ensures) (c .before .before .before .before .obeyed .ensures)
 
 pub uart-piece-spec : {M : Type 1} → statement M
@@ -126,7 +125,6 @@ uart-piece-spec =
     same-length
     same-length-2
     returns
-    slice-aggregate-gather
     gather-requires
     is-tidy-requires
     with-mode-requires

@@ -1,0 +1,4 @@
+pub mod Tight
+mod Filling
+mod Holding
+pub mod Telling
