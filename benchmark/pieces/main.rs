@@ -1,4 +1,4 @@
-//! The program of main.rt around the peer: the bytes of a delivery, in pieces or byte by byte.
+//! The program of main.rattle around the peer: the bytes of a delivery, in pieces or byte by byte.
 //!   pieces in-place < stream     the record stays where it is
 //!   pieces by-value < stream     it goes into each call by value, and comes out of it so
 

@@ -93,7 +93,7 @@ no-bytes : (xs : List ℕ) → length xs ≡ 0 → xs ≡ []
 no-bytes [] e = refl
 no-bytes (x ∷ xs) e = absurd (suc-ne-zero (length xs) e)
 
-pub unwrap-right : (w : List ℕ) → length w ≡ 15 → eqb (unwrapNumber w 12) 0 ≡ rightlyWrapped w
+unwrap-right : (w : List ℕ) → length w ≡ 15 → eqb (unwrapNumber w 12) 0 ≡ rightlyWrapped w
 unfolding unwrapNumber
 unwrap-right w l = go (rightlyWrapped w) refl
   where
