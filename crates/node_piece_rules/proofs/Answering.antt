@@ -15,7 +15,7 @@ use Rattle.node_rules.specs.Runs.{state, endOf, behindByte, bytesIn, AllTen}
 use Rattle.node_rules.specs.Others.{emptied}
 use Rattle.node_rules.proofs.Agreement.{byte-tidied}
 use Rattle.node_rules.proofs.Tidying.{tidy-twice}
-use Rattle.node_piece_rules.specs.Piece.{PieceStep, takesNone, takenOf, noByte, lastOf, lastTaken, pieceStep, nodeBefore}
+use Rattle.node_piece_rules.specs.Piece.{PieceStep, takesNone, takenOf, noByte, lastTaken, pieceStep, nodeBefore}
 use Rattle.node_piece_rules.proofs.Stopping.{stops-before, by-taken}
 use Rattle.node_piece_rules.proofs.Opening.{Refused, Opened, refused-or-open, open-waits, open-hears, still-open}
 use Rattle.node_piece_rules.proofs.Taking.{none-there, last-is, taken-few}
@@ -24,7 +24,8 @@ module _ (n : Node) (bs flash eeprom : List ℕ) where
   -- no byte taken
   pub piece-none : pieceStep n bs flash eeprom .taken ≡ 0 → pieceStep n bs flash eeprom .last ≡ noByte n flash eeprom
   unfolding pieceStep
-  piece-none e = ap (lastOf (noByte n flash eeprom)) (none-there (takenOf (bytesIn bs (state n flash eeprom))) e)
+  piece-none e =
+      ap (λ (ts : List UartStep). lastTaken (noByte n flash eeprom) ts .last) (none-there (takenOf (bytesIn bs (state n flash eeprom))) e)
 
   -- a byte taken, with j in front of it, and no more: it gives the answer, those in front give 10, and of the record no more than what is
   -- held has changed before it
