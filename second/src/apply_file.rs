@@ -3,7 +3,7 @@
 
 use crate::frames::FRAME;
 use crate::memory::{Lent, EEPROM_CELLS, FLASH_CELLS};
-use crate::node::{Node, Pin};
+use crate::node::{Node, Pin, Way};
 use crate::recipe::translate;
 use std::fmt::Write;
 
@@ -36,7 +36,7 @@ pub fn printed(recipe: &[u8]) -> String {
     let (mut flash, mut eeprom) = (vec![0xFF; FLASH_CELLS], vec![0xFF; EEPROM_CELLS]);
     let mut lent = Lent { flash: &mut flash, eeprom: &mut eeprom };
     let mut node = Node::fresh([0; 6]);
-    node.restart(&lent, Pin::CanOnly, true);
+    node.restart(&lent, Pin::CanOnly, true, Way::default());
     let mut text = String::new();
     for frame in output[..FRAME * count].chunks_exact(FRAME) {
         let outcome = node.can_frame(&mut lent, frame);

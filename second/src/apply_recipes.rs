@@ -3,8 +3,9 @@
 use crate::digest::Digest;
 use crate::frames::{self, FRAME, WRAPPED};
 use crate::memory::{Lent, BOOTFL, EEPROM_CELLS, FLASH_CELLS, GROUP, MODULE};
-use crate::node::{Mode, Node, Outcome, Pin};
+use crate::node::{Mode, Node, Outcome, Pin, Way};
 use crate::node_record;
+use crate::numbers::DONE;
 use crate::recipe::{plain_reading, translate};
 use crate::recipe_stream::{read, Trial};
 use crate::session::fill;
@@ -36,7 +37,7 @@ fn take(digest: &mut Digest, outcome: &Outcome, behind: &[u8], width: usize) {
 /// The node before the first frame: restarted, and with what the header puts into its record.
 fn begun(trial: &Trial, lent: &Lent) -> Node {
     let mut node = Node::fresh([0; 6]);
-    node.restart(lent, trial.begin.pin(), true);
+    node.restart(lent, trial.begin.pin(), true, trial.way());
     trial.begin.put(&mut node);
     node
 }
@@ -90,19 +91,36 @@ fn deliver(trial: &Trial, node: &mut Node, lent: &mut Lent, output: &[u8]) -> Di
     }
 }
 
+/// Whether a right frame begins in the held bytes and ends in the first frame behind them.
+pub fn frame_in_held(held: &[u8], output: &[u8]) -> bool {
+    let first = &output[..FRAME.min(output.len())];
+    let all = [held, &all_wrapped(first)].concat();
+    let right = |bytes: &[u8]| frames::unwrap(bytes, &mut [0; FRAME]) == DONE;
+    all.windows(WRAPPED).take(held.len()).any(right)
+}
+
+/// Whether bytes held before a delivery by UART, which are taken with its first bytes, may cost
+/// frames: in the old way they do, in the new one only where a right frame begins in them.
+pub fn may_cost_frames(trial: &Trial, before: &Node, output: &[u8]) -> bool {
+    let tidied = before.tidied();
+    let held = tidied.held_bytes();
+    let taken = trial.uart && before.pin == Pin::CanAndUart && !held.is_empty();
+    taken && (before.way == Way::Old || frame_in_held(held, output))
+}
+
 /// Compares what the node did with the plain reading; gives what is wrong. A node that doesn't
-/// hear the port, or bears other numbers, does nothing. Bytes held before a delivery by UART are
-/// taken with its first bytes; what that comes to is not told here.
+/// hear the port, or bears other numbers, does nothing. What comes of held bytes that may cost
+/// frames is not told here.
 fn compare(
     trial: &Trial,
     before: &Node,
     node: &Node,
-    flash: &[u8],
-    eeprom: &[u8],
+    [flash, eeprom]: [&[u8]; 2],
+    output: &[u8],
 ) -> Option<String> {
     let (mut plain_flash, mut plain_eeprom) = memories(trial);
     let hears = !trial.uart || before.pin == Pin::CanAndUart;
-    if trial.uart && hears && before.tidied().held_count > 0 {
+    if may_cost_frames(trial, before, output) {
         return None;
     }
     let ours = hears && trial.recipe[1..3] == [trial.module, trial.group];
@@ -172,9 +190,9 @@ fn apply(trial: &Trial) -> (String, Option<String>) {
         Digest::of(&eeprom),
         Digest::of(&node_record::write(&node)),
     );
-    let wrong = compare(trial, &before, &node, &flash, &eeprom);
     let frames = &output[..FRAME * count];
     let memories = [&flash[..], &eeprom[..]];
+    let wrong = compare(trial, &before, &node, memories, frames);
     (line, wrong.or_else(|| compare_with_bytes(trial, &before, &node, memories, frames)))
 }
 

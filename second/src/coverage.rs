@@ -9,6 +9,7 @@ use crate::numbers::*;
 use crate::piece_coverage::{Met, Pieces};
 use crate::session::{Answer, Session};
 use crate::uart_coverage::Run;
+use crate::way_coverage::Ways;
 use std::collections::HashMap;
 use std::io::{self, Write};
 
@@ -278,14 +279,21 @@ struct Table {
     session: Session,
     run: Run,
     pieces: Pieces,
+    ways: Ways,
     answered: u64,
 }
 
 impl Table {
     /// The table before any event.
     fn new() -> Table {
-        let (session, run) = (Session::new(), Run::new());
-        Table { counts: HashMap::new(), session, run, pieces: Pieces::default(), answered: 0 }
+        Table {
+            counts: HashMap::new(),
+            session: Session::new(),
+            run: Run::new(),
+            pieces: Pieces::default(),
+            ways: Ways::default(),
+            answered: 0,
+        }
     }
 
     /// Counts some rows.
@@ -305,7 +313,10 @@ impl Table {
                 self.count(vec!["begin with mixed memories".to_string()]);
             }
         }
-        let Some(answer) = self.session.apply(event) else {
+        let answer = self.session.apply(event);
+        let of_ways = self.ways.take(&before, &self.session, event, answer.as_ref());
+        self.count(of_ways);
+        let Some(answer) = answer else {
             self.run.break_off();
             self.pieces = Pieces::default();
             return None;

@@ -3,6 +3,7 @@
 use crate::numbers::*;
 use crate::piece_coverage::PIECE_ROWS;
 use crate::uart_coverage::RUN_ROWS;
+use crate::way_coverage;
 
 /// The rims of the legal rows and blocks.
 pub const RIMS: [u32; 9] =
@@ -136,5 +137,6 @@ pub fn wanted() -> Vec<String> {
     for call in RECORD_CALLS {
         rows.extend(RECORD_ROWS.iter().map(|row| format!("{call} {row}")));
     }
+    rows.extend(way_coverage::wanted());
     rows
 }

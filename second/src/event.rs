@@ -21,14 +21,14 @@ pub type Record = [u8; RECORD];
 /// An event; that of UART pieces has what the ring holds, and the length of each call's piece.
 #[derive(Clone, PartialEq, Eq, Debug)]
 pub enum Event {
-    Restart { pin: u8, self_test: u8 },
+    Restart { pin: u8, self_test: u8, way: u8 },
     CanFrame(Vec<u8>),
     UartByte(u8),
     Show(u32),
     HandIn([u8; HANDED]),
     Lend { flash: u32, eeprom: u32 },
     Poke { address: u32, value: u8 },
-    Begin { flash: u8, eeprom: u8, fixed: [u8; 6], full: u16, step: u8, more: u8 },
+    Begin { flash: u8, eeprom: u8, fixed: [u8; 6], full: u16, step: u8, more: u8, tells_way: u8 },
     End,
     IdentifierToFrame { identifier: u32, data: Vec<u8>, output: usize },
     FrameToIdentifier { frame: Vec<u8>, output: usize },
@@ -36,6 +36,7 @@ pub enum Event {
     Unwrap { input: Vec<u8>, output: usize },
     AddressRule { address: u32, command: u32 },
     UartPieces { ring: Vec<u8>, lengths: Vec<u8> },
+    Meant(u8),
 }
 
 /// A number of four bytes, high byte first.
@@ -54,7 +55,7 @@ impl Event {
         let b = record;
         let from = |at: usize, count: u8| b[at..at + length(count)].to_vec();
         Some(match b[0] {
-            0x01 => Event::Restart { pin: b[1], self_test: b[2] },
+            0x01 => Event::Restart { pin: b[1], self_test: b[2], way: b[3] },
             0x02 => {
                 let length = u16::from_be_bytes([b[1], b[2]]) as usize;
                 let mut bytes = b[3..].to_vec();
@@ -74,6 +75,7 @@ impl Event {
                 full: u16::from_be_bytes([b[9], b[10]]),
                 step: b[11],
                 more: b[12],
+                tells_way: b[13],
             },
             0x09 => Event::End,
             0x0A => Event::IdentifierToFrame {
@@ -90,6 +92,7 @@ impl Event {
                 let lengths = b[LENGTHS_AT..][..MOST_CALLS.min(b[2] as usize)].to_vec();
                 Event::UartPieces { ring, lengths }
             }
+            0x12 => Event::Meant(b[1]),
             _ => return None,
         })
     }
@@ -117,6 +120,11 @@ impl Event {
         }
     }
 
+    /// Whether the answer ends with the node.
+    pub fn tells_node(&self) -> bool {
+        self.kind() <= 0x03 || self.kind() == PIECES
+    }
+
     /// The record's kind.
     pub fn kind(&self) -> u8 {
         match self {
@@ -135,6 +143,7 @@ impl Event {
             Event::Unwrap { .. } => 0x0D,
             Event::AddressRule { .. } => 0x0E,
             Event::UartPieces { .. } => PIECES,
+            Event::Meant(_) => 0x12,
         }
     }
 
@@ -142,7 +151,7 @@ impl Event {
     pub fn write(&self) -> Record {
         let mut bytes = vec![self.kind()];
         match self {
-            Event::Restart { pin, self_test } => bytes.extend([pin, self_test]),
+            Event::Restart { pin, self_test, way } => bytes.extend([pin, self_test, way]),
             Event::CanFrame(frame) => {
                 bytes.extend((frame.len() as u16).to_be_bytes());
                 bytes.extend(&frame[..frame.len().min(CAN_IN_RECORD)]);
@@ -158,11 +167,11 @@ impl Event {
                 bytes.extend(address.to_be_bytes());
                 bytes.push(*value);
             }
-            Event::Begin { flash, eeprom, fixed, full, step, more } => {
+            Event::Begin { flash, eeprom, fixed, full, step, more, tells_way } => {
                 bytes.extend([flash, eeprom]);
                 bytes.extend(fixed);
                 bytes.extend(full.to_be_bytes());
-                bytes.extend([step, more]);
+                bytes.extend([step, more, tells_way]);
             }
             Event::End => {}
             Event::IdentifierToFrame { identifier, data, output } => {
@@ -186,6 +195,7 @@ impl Event {
                 bytes.resize(RING_AT, 0);
                 bytes.extend(ring);
             }
+            Event::Meant(way) => bytes.push(*way),
         }
         let mut record = [0; RECORD];
         record[..bytes.len()].copy_from_slice(&bytes);

@@ -1,6 +1,6 @@
 //! Tells one event of a session stream in words.
 
-use crate::event::{records, Event, PIECES};
+use crate::event::{records, Event};
 use crate::frames::{self, Frame};
 use crate::node::{Node, HELD};
 use crate::node_record::NODE;
@@ -15,7 +15,7 @@ fn pairs(bytes: &[u8]) -> String {
 /// A node record in words, held bytes and staged command as they stand, tidy or not.
 fn node_words(node: &Node) -> String {
     format!(
-        "pin {:?}, fixed {}, own numbers {:02X} {:02X}, {} held [{}], mode {:X?}",
+        "pin {:?}, fixed {}, own numbers {:02X} {:02X}, {} held [{}], mode {:X?}, {:?} way",
         node.pin,
         pairs(&node.fixed),
         node.module,
@@ -23,6 +23,7 @@ fn node_words(node: &Node) -> String {
         node.held_count,
         pairs(&node.held[..node.held.len().min(node.held_count as usize)]),
         node.mode,
+        node.way,
     )
 }
 
@@ -61,11 +62,9 @@ fn piece_words(piece: &[u8], ring: &[u8], before: &Node) -> String {
         ring.len(),
         tidied.held_count,
     );
-    let (mut held, mut rest) = (tidied.held_bytes(), piece);
-    while let Some((count, all)) = frames::first_fifteen(held, rest) {
+    for all in tidied.way.fifteens(tidied.held_bytes(), piece) {
         let frame = all[1..HELD - 1].try_into().expect("12 bytes");
         text += &format!(" (fifteen bytes: {})", frame_words(&frame));
-        (held, rest) = (&[], &rest[count..]);
     }
     text
 }
@@ -73,8 +72,8 @@ fn piece_words(piece: &[u8], ring: &[u8], before: &Node) -> String {
 /// An event in words, met by this node.
 fn event_words(event: &Event, before: &Node) -> String {
     match event {
-        Event::Restart { pin, self_test } => {
-            format!("restart, pin byte {pin}, self-test byte {self_test}")
+        Event::Restart { pin, self_test, way } => {
+            format!("restart, pin byte {pin}, self-test byte {self_test}, way byte {way}")
         }
         Event::CanFrame(bytes) => {
             let meaning = match Frame::try_from(&bytes[..]) {
@@ -168,15 +167,18 @@ fn told(session: &Session, before: &Node, event: &Event, answer: &Answer) -> Str
         format!("kind 0x{:02X}", event.kind()),
         format!("what: {}", event_words(event, before)),
         format!("lent: FLASH {}, EEPROM {}", session.lent_flash, session.lent_eeprom),
+        format!("meant where nothing is said: the {:?} way", session.meant),
         format!("node before: {}", node_words(before)),
         format!("number {}: {}", answer.number, words(answer.number)),
     ];
     lines.extend(answer_words(event, &bytes[1..]));
-    if event.kind() <= 0x03 || event.kind() == PIECES {
+    if event.tells_node() {
         lines.push(format!("node after: {}", node_words(&session.node)));
-        let (record, fifteenth) = bytes[bytes.len() - NODE - 1..].split_at(NODE);
+        let length = NODE + 1 + session.tells_way as usize;
+        let (record, behind) = bytes[bytes.len() - length..].split_at(NODE);
         lines.push(format!("NODE: {}", pairs(record)));
-        lines.push(format!("fifteenth held byte: {}", pairs(fifteenth)));
+        lines.push(format!("fifteenth held byte: {:02X}", behind[0]));
+        lines.extend(behind.get(1).map(|way| format!("way: {way}")));
     }
     lines.push(format!("line: {}", hex(&answer.line)));
     lines.join("\n")

@@ -13,6 +13,7 @@ mod generate;
 mod memory;
 mod node;
 mod node_record;
+mod noisy_recipes;
 mod numbers;
 mod piece_coverage;
 #[cfg(test)]
@@ -28,17 +29,26 @@ mod recipes_in_pieces;
 mod samples;
 mod session;
 mod uart_coverage;
+mod way_coverage;
+#[cfg(test)]
+mod ways_samples;
 
+use generate::Kind;
+use node::Way;
 use std::io::{self, BufWriter, Read, Write};
 use std::process::ExitCode;
 
 const USAGE: &str = "second generate SEED SESSIONS EVENTS FULL > stream
 second pieces SEED SESSIONS EVENTS FULL > stream
+second ways SEED SESSIONS EVENTS FULL > stream
+second ask old|new > stream
 second answer < stream
 second coverage < stream
 second explain N < stream
 second recipes SEED COUNT > stream
 second recipes-in-pieces SEED COUNT > stream
+second noisy-recipes SEED COUNT > stream
+second ask-recipes old|new > stream
 second apply-recipes < stream
 second recipe-coverage < stream
 second apply FILE
@@ -56,6 +66,14 @@ fn complaint(missing: Vec<String>) -> Option<String> {
     (!missing.is_empty()).then(|| format!("never reached: {}", missing.join("; ")))
 }
 
+/// The way of a name.
+fn named(name: &str) -> Way {
+    match name {
+        "old" => Way::Old,
+        _ => Way::New,
+    }
+}
+
 /// Runs a command; gives a message where the answer is no.
 fn run(arguments: &[&str], out: &mut impl Write) -> io::Result<Option<String>> {
     let number = |text: &str| -> io::Result<u64> {
@@ -63,12 +81,23 @@ fn run(arguments: &[&str], out: &mut impl Write) -> io::Result<Option<String>> {
         text.parse().map_err(|_| wrong())
     };
     match arguments {
-        [command @ ("generate" | "pieces"), seed, sessions, events, full] => {
+        [command @ ("generate" | "pieces" | "ways"), seed, sessions, events, full] => {
             let full = number(full)?.min(65_535) as u16;
             let (sessions, events) = (number(sessions)? as u32, number(events)?);
-            let in_pieces = *command == "pieces";
-            generate::generate(in_pieces, number(seed)?, sessions, events, full, out)?;
+            let kind = match *command {
+                "generate" => Kind::Bytes,
+                "pieces" => Kind::Pieces,
+                _ => Kind::Ways,
+            };
+            generate::generate(kind, number(seed)?, sessions, events, full, out)?;
             Ok(None)
+        }
+        ["ask", name @ ("old" | "new")] => {
+            let way = node_record::way_byte(named(name));
+            out.write_all(&event::Event::Meant(way).write()).map(|_| None)
+        }
+        ["ask-recipes", name @ ("old" | "new")] => {
+            recipe_stream::write_meant(named(name), out).map(|_| None)
         }
         ["answer"] => session::answer_stream(&input()?, out).map(|_| None),
         ["coverage"] => Ok(complaint(coverage::coverage(&input()?, out)?)),
@@ -82,6 +111,10 @@ fn run(arguments: &[&str], out: &mut impl Write) -> io::Result<Option<String>> {
         ["recipes-in-pieces", seed, count] => {
             let (seed, count) = (number(seed)?, number(count)? as usize);
             recipes_in_pieces::recipes_in_pieces(seed, count, out).map(|_| None)
+        }
+        ["noisy-recipes", seed, count] => {
+            let (seed, count) = (number(seed)?, number(count)? as usize);
+            noisy_recipes::noisy_recipes(seed, count, out).map(|_| None)
         }
         ["apply-recipes"] => apply_recipes::apply_recipes(&input()?, out),
         ["apply", file] => {

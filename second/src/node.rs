@@ -14,6 +14,41 @@ pub enum Pin {
     CanAndUart,
 }
 
+/// What stays held after 11 (request A2).
+#[derive(Clone, Copy, PartialEq, Eq, Debug, Default)]
+pub enum Way {
+    /// The first held byte is dropped, and the next 0xAA among the fourteen others and what is
+    /// behind it stay, or nothing.
+    #[default]
+    New,
+    /// All fifteen are dropped.
+    Old,
+}
+
+impl Way {
+    /// What stays held of fifteen bytes with a wrong sum or stop.
+    pub fn kept(self, fifteen: &[u8; WRAPPED]) -> &[u8] {
+        let others = &fifteen[1..];
+        match (self, others.iter().position(|&byte| byte == START)) {
+            (Way::New, Some(next)) => &others[next..],
+            _ => &[],
+        }
+    }
+
+    /// Each fifteen bytes that a receiver comes to which held some bytes and takes these.
+    pub fn fifteens(self, held: &[u8], bytes: &[u8]) -> Vec<[u8; WRAPPED]> {
+        let (mut held, mut rest) = (held.to_vec(), bytes);
+        let mut all = Vec::new();
+        while let Some((count, fifteen)) = frames::first_fifteen(&held, rest) {
+            let right = frames::unwrap(&fifteen, &mut [0; FRAME]) == DONE;
+            held = if right { Vec::new() } else { self.kept(&fifteen).to_vec() };
+            rest = &rest[count..];
+            all.push(fifteen);
+        }
+        all
+    }
+}
+
 /// A command waiting for its data frame.
 #[derive(Clone, Copy, PartialEq, Eq, Debug)]
 pub struct Staged {
@@ -46,6 +81,7 @@ pub struct Node {
     pub held_count: u64,
     pub held: [u8; HELD_ROOM],
     pub mode: Mode,
+    pub way: Way,
 }
 
 /// A number, and the replies as they go out on the port.
@@ -102,6 +138,7 @@ impl Node {
             held_count: 0,
             held: [0; HELD_ROOM],
             mode: Mode::Waiting,
+            way: Way::default(),
         }
     }
 
@@ -131,20 +168,22 @@ impl Node {
         &self.held[..self.held_count as usize]
     }
 
-    /// Drops the held bytes.
-    fn empty_held(&mut self) {
-        self.held_count = 0;
+    /// Holds these bytes and no others.
+    fn hold(&mut self, bytes: &[u8]) {
+        self.held_count = bytes.len() as u64;
         self.held = [0; HELD_ROOM];
+        self.held[..bytes.len()].copy_from_slice(bytes);
     }
 
     /// Restarts the node; gives 0 or 1.
-    pub fn restart(&mut self, lent: &Lent, pin: Pin, passed: bool) -> u8 {
+    pub fn restart(&mut self, lent: &Lent, pin: Pin, passed: bool, way: Way) -> u8 {
         self.tidy();
         if !lent.lengths_right() {
             return MEMORY_LENGTH;
         }
         self.pin = pin;
-        self.empty_held();
+        self.way = way;
+        self.hold(&[]);
         self.module = lent.eeprom[MODULE];
         self.group = lent.eeprom[GROUP];
         self.mode = if !passed {
@@ -192,11 +231,12 @@ impl Node {
         let mut all = [0; WRAPPED];
         all[..HELD].copy_from_slice(&self.held[..HELD]);
         all[HELD] = byte;
-        self.empty_held();
         let mut bytes = [0; FRAME];
         if frames::unwrap(&all, &mut bytes) != DONE {
+            self.hold(self.way.kept(&all));
             return refused(BAD_WRAPPING);
         }
+        self.hold(&[]);
         match self.frame(lent, &bytes) {
             Err(number) => refused(number),
             Ok(replies) => {

@@ -1,11 +1,12 @@
 //! NODE of PROTOCOL.md: a node record as 31 bytes, and what a record has beyond them.
 
 use crate::memory::{Address, Command};
-use crate::node::{Mode, Node, Pin, Staged, HELD, HELD_ROOM};
+use crate::node::{Mode, Node, Pin, Staged, Way, HELD, HELD_ROOM};
 
 pub const NODE: usize = 31;
-/// NODE, the count's number above its low byte, and the fifteenth held byte: what is handed in.
-pub const HANDED: usize = NODE + 4 + 1;
+/// NODE, the count's number above its low byte, the fifteenth held byte and the way: what is
+/// handed in.
+pub const HANDED: usize = NODE + 4 + 1 + 1;
 /// Where things lie in the 31 bytes.
 pub const HELD_COUNT_AT: usize = 9;
 pub const HELD_AT: usize = 10;
@@ -15,6 +16,7 @@ pub const ADDRESS_KIND_AT: usize = 26;
 pub const ADDRESS_AT: usize = 27;
 pub const COUNT_ABOVE_AT: usize = NODE;
 pub const FIFTEENTH_AT: usize = NODE + 4;
+pub const WAY_AT: usize = NODE + 5;
 
 /// A tidied node record as bytes.
 pub fn write(node: &Node) -> [u8; NODE] {
@@ -40,11 +42,32 @@ pub fn write(node: &Node) -> [u8; NODE] {
     bytes
 }
 
-/// A tidied node record as an answer ends with it: NODE and the fifteenth held byte.
-pub fn write_whole(node: &Node) -> Vec<u8> {
+/// A tidied node record as an answer ends with it: NODE and the fifteenth held byte, and the way
+/// where answers tell it.
+pub fn write_whole(node: &Node, tells_way: bool) -> Vec<u8> {
     let mut bytes = write(node).to_vec();
     bytes.push(node.held[HELD]);
+    if tells_way {
+        bytes.push(way_byte(node.way));
+    }
     bytes
+}
+
+/// The byte of a way.
+pub fn way_byte(way: Way) -> u8 {
+    match way {
+        Way::New => 1,
+        Way::Old => 2,
+    }
+}
+
+/// The way that a byte says; where it says nothing, the one that is meant.
+pub fn way(byte: u8, meant: Way) -> Way {
+    match byte {
+        0 => meant,
+        1 => Way::New,
+        _ => Way::Old,
+    }
 }
 
 /// What is staged by its number, the kind of its address and the address.
@@ -64,8 +87,8 @@ fn number(bytes: &[u8]) -> u32 {
     bytes[..4].iter().fold(0, |number, &byte| number << 8 | byte as u32)
 }
 
-/// The node record of any bytes, untidied.
-pub fn read(bytes: &[u8; HANDED]) -> Node {
+/// The node record of any bytes, untidied, with the way that is meant where they say nothing of it.
+pub fn read(bytes: &[u8; HANDED], meant: Way) -> Node {
     let staged = staged(bytes[STAGED_AT], bytes[ADDRESS_KIND_AT], number(&bytes[ADDRESS_AT..]));
     let mut held = [0; HELD_ROOM];
     held[..HELD].copy_from_slice(&bytes[HELD_AT..MODE_AT]);
@@ -84,5 +107,6 @@ pub fn read(bytes: &[u8; HANDED]) -> Node {
             3 => Mode::Error,
             _ => Mode::Waiting,
         },
+        way: way(bytes[WAY_AT], meant),
     }
 }

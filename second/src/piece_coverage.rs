@@ -1,7 +1,7 @@
 //! What the UART pieces of a session were: empty, ended by an outcome, leftovers, a frame's part.
 
 use crate::event::Event;
-use crate::frames::{self, Frame, FRAME, START};
+use crate::frames::{self, Frame, FRAME, START, WRAPPED};
 use crate::node::{Mode, Node, HELD};
 use crate::numbers::*;
 use crate::session::{Answer, Session};
@@ -96,13 +96,9 @@ impl<'a> Met<'a> {
 
     /// Whether two whole frames, rightly wrapped, stand in it.
     fn two_frames(&self) -> bool {
-        let mut rest = self.piece;
-        let mut right = 0;
-        while let Some((count, fifteen)) = frames::first_fifteen(&[], rest) {
-            right += (frames::unwrap(&fifteen, &mut [0; FRAME]) == DONE) as usize;
-            rest = &rest[count..];
-        }
-        self.tidied.held_count == 0 && right >= 2
+        let right = |fifteen: &&[u8; WRAPPED]| frames::unwrap(*fifteen, &mut [0; FRAME]) == DONE;
+        let fifteens = self.before.way.fifteens(&[], self.piece);
+        self.tidied.held_count == 0 && fifteens.iter().filter(right).count() >= 2
     }
 
     /// The rows of the record that it met, where the node heard it.
@@ -222,6 +218,11 @@ impl Pieces {
             self.parts = 0;
         }
         self.parts += 1;
-        holding(&[("a frame over three pieces or more", met.frame().is_some() && self.parts >= 3)])
+        let three = met.frame().is_some() && self.parts >= 3;
+        if met.number == BAD_WRAPPING {
+            // What is kept counts as of one piece.
+            self.parts = 1;
+        }
+        holding(&[("a frame over three pieces or more", three)])
     }
 }

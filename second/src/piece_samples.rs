@@ -38,7 +38,7 @@ fn empty_pieces() {
     uart(&mut open, "AA 01 02");
     assert_eq!(piece(&mut open, ""), (INCOMPLETE, 0, vec![]));
     assert_eq!(open.node.held_bytes(), [0xAA, 1, 2]);
-    open.apply(&Event::Restart { pin: 1, self_test: 1 });
+    open.apply(&Event::Restart { pin: 1, self_test: 1, way: 0 });
     assert_eq!(piece(&mut open, ""), (DEAF, 0, vec![]));
     open.node.pin = Pin::CanOnly;
     assert_eq!(piece(&mut open, ""), (PIN_CAN_ONLY, 0, vec![]));
@@ -125,7 +125,7 @@ fn waiting_inside_a_piece() {
         answers.iter().map(|answer| (answer.number, answer.line[2])).collect();
     assert_eq!(told, [(DONE, 15), (DEAF, 0), (DEAF, 0), (DEAF, 0)]);
     assert_eq!(session.node.mode, Mode::Waiting);
-    session.apply(&Event::Restart { pin: 1, self_test: 0 });
+    session.apply(&Event::Restart { pin: 1, self_test: 0, way: 0 });
     assert_eq!(piece(&mut session, WRAPPED_PROGRAM).0, DONE);
 }
 
@@ -212,13 +212,15 @@ struct Whole {
 type Told = (u8, Vec<Vec<u8>>);
 
 impl Whole {
-    /// A node in normal or programming mode, own numbers 05 0A, with held bytes, untidy or not.
+    /// A node in normal or programming mode and in either way, own numbers 05 0A, with held bytes,
+    /// untidy or not.
     fn random(random: &mut Random) -> Whole {
         let (flash, mut eeprom) = (vec![random.byte(); FLASH_CELLS], vec![0x31; EEPROM_CELLS]);
         (eeprom[MODULE], eeprom[GROUP], eeprom[BOOTFL]) = (5, 10, random.pick(&[0x00, 0xFF]));
         let mut whole = Whole { node: Node::fresh([1, 2, 3, 4, 5, 6]), flash, eeprom };
         let lent = Lent { flash: &mut whole.flash, eeprom: &mut whole.eeprom };
-        whole.node.restart(&lent, Pin::CanAndUart, true);
+        let way = random.pick(&[Way::New, Way::Old]);
+        whole.node.restart(&lent, Pin::CanAndUart, true, way);
         whole.node.held = random.bytes();
         whole.node.held[0] = random.pick(&[START, START, 0x2A]);
         whole.node.held_count = random.below(17) as u64;

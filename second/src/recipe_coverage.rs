@@ -1,8 +1,9 @@
 //! Counts what the recipes of a stream come to.
 
-use crate::frames::{START, WRAPPED};
+use crate::apply_recipes::frame_in_held;
+use crate::frames::{self, FRAME, START, WRAPPED};
 use crate::memory::Command;
-use crate::node::{Staged, HELD};
+use crate::node::{Staged, Way, HELD};
 use crate::recipe::{body_length, illegal, items, translate, Refusal, LEAVE, MOST_ITEMS, OPEN};
 use crate::recipe_stream::{read, Trial};
 use std::collections::HashMap;
@@ -86,6 +87,45 @@ const WANTED_IN_PIECES: [&str; 21] = [
     "pieces, a recipe refused",
     "pieces, a recipe refused with 26",
 ];
+
+/// Every row that recipes with noise in front ought to reach, on UART and in pieces.
+const WANTED_NOISY: [&str; 8] = [
+    "noise in front, new way said, the first frame arrives",
+    "noise in front, new way left unsaid, the first frame arrives",
+    "noise in front, new way, a right frame in it",
+    "noise in front, new way, of one byte",
+    "noise in front, new way, of fourteen bytes",
+    "noise in front, new way, several 0xAA in it",
+    "noise in front, old way said, the first frame lost",
+    "noise in front, old way left unsaid, the first frame lost",
+];
+
+/// The rows of bytes held before a recipe for the own numbers comes by UART, as these frames.
+fn noise_rows(trial: &Trial, output: &[u8]) -> Vec<String> {
+    let begin = &trial.begin;
+    let count = begin.held_count as usize;
+    let ours = trial.recipe[1..3] == [trial.module, trial.group];
+    let heard = trial.uart && begin.can_and_uart && ours;
+    if !heard || !(1..=HELD).contains(&count) || begin.held[0] != START {
+        return vec![];
+    }
+    let held = &begin.held[..count];
+    let first = frames::wrapped(output[..FRAME].try_into().expect("a frame"));
+    let arrives = trial.way().fifteens(held, &first).last() == Some(&first);
+    let way = if trial.way() == Way::New { "new way" } else { "old way" };
+    let said = if trial.way_byte == 0 { "left unsaid" } else { "said" };
+    let arrived = if arrives { "the first frame arrives" } else { "the first frame lost" };
+    let found = [
+        (format!("{way} {said}, {arrived}"), true),
+        (format!("{way}, a right frame in it"), frame_in_held(held, output)),
+        (format!("{way}, of one byte"), count == 1),
+        (format!("{way}, of fourteen bytes"), count == HELD),
+        (format!("{way}, several 0xAA in it"), held[1..].contains(&START)),
+    ];
+    let port = if trial.piece > 0 { "pieces" } else { "UART" };
+    let found = found.iter().filter(|(_, holds)| *holds);
+    found.map(|(row, _)| format!("accepted {port}, noise in front, {row}")).collect()
+}
 
 /// The rows of what an accepted recipe for the own numbers finds in the record and the memories.
 fn begun(trial: &Trial, port: &str) -> Vec<String> {
@@ -245,27 +285,40 @@ fn refused(trial: &Trial, number: u8, place: usize) -> Vec<String> {
     }
 }
 
+/// Every row that a stream ought to reach, in the order of the printed table.
+fn wanted() -> Vec<String> {
+    let mut rows: Vec<String> =
+        WANTED.iter().chain(&WANTED_IN_PIECES).map(|row| row.to_string()).collect();
+    for port in ["UART", "pieces"] {
+        rows.extend(WANTED_NOISY.iter().map(|row| format!("accepted {port}, {row}")));
+    }
+    rows
+}
+
 /// Prints the table of counts; gives the rows that were never reached.
 pub fn recipe_coverage(stream: &[u8], out: &mut impl Write) -> io::Result<Vec<String>> {
     let mut counts: HashMap<String, u64> = HashMap::new();
     let trials = read(stream);
     for trial in &trials {
-        let rows = match translate(&trial.recipe, &mut vec![0; trial.output]) {
+        let mut output = vec![0; trial.output];
+        let translated = translate(&trial.recipe, &mut output);
+        let noise = translated.map_or(vec![], |_| noise_rows(trial, &output));
+        let rows = match translated {
             translated if trial.uart && trial.piece > 0 => in_pieces(trial, translated),
             Ok(count) => accepted(trial, count),
             Err(refusal) => refused(trial, refusal.number, refusal.place),
         };
-        for row in rows {
+        for row in rows.into_iter().chain(noise) {
             *counts.entry(row).or_default() += 1;
         }
     }
     writeln!(out, "{:>9} recipes", trials.len())?;
     let mut missing = Vec::new();
-    for row in WANTED.iter().chain(&WANTED_IN_PIECES) {
-        let count = counts.get(*row).copied().unwrap_or(0);
+    for row in wanted() {
+        let count = counts.get(&row).copied().unwrap_or(0);
         writeln!(out, "{count:>9} {row}")?;
         if count == 0 {
-            missing.push(row.to_string());
+            missing.push(row);
         }
     }
     Ok(missing)

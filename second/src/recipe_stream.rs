@@ -2,11 +2,12 @@
 
 use crate::event::RECORD;
 use crate::memory::Address;
-use crate::node::{Mode, Node, Pin, Staged, HELD};
+use crate::node::{Mode, Node, Pin, Staged, Way, HELD};
 use crate::node_record;
 use std::io::{self, Write};
 
 const HEADER: u8 = 0x20;
+const MEANT: u8 = 0x21;
 
 /// A recipe to be applied, and how.
 #[derive(Clone, PartialEq, Eq, Debug)]
@@ -23,6 +24,9 @@ pub struct Trial {
     pub begin: Begin,
     /// The length of a piece on UART, 0 for byte by byte.
     pub piece: u16,
+    /// The way of the restart as a byte, and what is meant where that says nothing.
+    pub way_byte: u8,
+    pub meant: Way,
     /// The length of the lent frame output.
     pub output: usize,
     pub recipe: Vec<u8>,
@@ -85,7 +89,19 @@ fn number(bytes: &[u8]) -> usize {
     bytes[..4].iter().fold(0, |number, &byte| number << 8 | byte as usize)
 }
 
+/// Writes the record that says which way is meant from there on.
+pub fn write_meant(way: Way, out: &mut impl Write) -> io::Result<()> {
+    let mut record = [0; RECORD];
+    record[..2].copy_from_slice(&[MEANT, node_record::way_byte(way)]);
+    out.write_all(&record)
+}
+
 impl Trial {
+    /// The way of the restart.
+    pub fn way(&self) -> Way {
+        node_record::way(self.way_byte, self.meant)
+    }
+
     /// Writes the header and the recipe, filled up with 0.
     pub fn write(&self, out: &mut impl Write) -> io::Result<()> {
         let mut bytes =
@@ -95,6 +111,7 @@ impl Trial {
         bytes.extend([self.step, self.more]);
         bytes.extend(self.begin.write());
         bytes.extend(self.piece.to_be_bytes());
+        bytes.push(self.way_byte);
         bytes.resize(RECORD, 0);
         bytes.extend(&self.recipe);
         bytes.resize(bytes.len().next_multiple_of(RECORD), 0);
@@ -105,9 +122,13 @@ impl Trial {
 /// All trials of a recipe stream.
 pub fn read(stream: &[u8]) -> Vec<Trial> {
     let mut trials = Vec::new();
+    let mut meant = Way::default();
     let mut rest = stream;
     while let Some((header, behind)) = rest.split_at_checked(RECORD) {
         rest = behind;
+        if header[0] == MEANT {
+            meant = node_record::way(header[1], Way::default());
+        }
         if header[0] != HEADER {
             continue;
         }
@@ -122,6 +143,8 @@ pub fn read(stream: &[u8]) -> Vec<Trial> {
             more: header[15],
             begin: Begin::read(&header[16..]),
             piece: u16::from_be_bytes([header[38], header[39]]),
+            way_byte: header[40],
+            meant,
             output: number(&header[10..]),
             recipe: behind[..length].to_vec(),
         });

@@ -2,7 +2,7 @@
 
 use crate::frames;
 use crate::memory::{Address, Command, BLOCK, EEPROM_BASE, ROW};
-use crate::node::{Staged, HELD};
+use crate::node::{Staged, Way, HELD};
 use crate::random::Random;
 use crate::recipe::*;
 use crate::recipe_stream::{Begin, Trial};
@@ -357,6 +357,8 @@ pub fn recipes(seed: u64, count: usize, out: &mut impl Write) -> io::Result<()> 
             more: if pattern { random.any() } else { 0 },
             begin: begin(&mut random, [module, group], full),
             piece: 0,
+            way_byte: 0,
+            meant: Way::default(),
             output: if long { needed } else { output_length(&mut random, needed) },
             recipe,
         };

@@ -1,6 +1,7 @@
 //! Makes recipe streams that are delivered by UART in pieces: the longest recipe in pieces of some
 //! lengths, then legal recipes, and some that are refused, in pieces of any length.
 
+use crate::node::Way;
 use crate::random::Random;
 use crate::recipe::translate;
 use crate::recipe_stream::{Begin, Trial};
@@ -23,13 +24,15 @@ fn longest(random: &mut Random) -> Trial {
         more: random.any(),
         begin: Begin { can_and_uart: true, staged: None, held_count: 0, held: [0; 14] },
         piece: 0,
+        way_byte: 0,
+        meant: Way::default(),
         output: MOST_OUTPUT,
         recipe: largest(random, numbers).concat(),
     }
 }
 
 /// The length of a piece, around one and two frames, of some frames, or any.
-fn piece_length(random: &mut Random) -> u16 {
+pub fn piece_length(random: &mut Random) -> u16 {
     match random.below(11) {
         0..=3 => 1 + random.below(20) as u16,
         4 => 15,
@@ -68,6 +71,8 @@ fn short(random: &mut Random) -> Trial {
         more: if pattern { random.any() } else { 0 },
         begin,
         piece: piece_length(random),
+        way_byte: 0,
+        meant: Way::default(),
         output: if random.chance(85) { needed } else { output_length(random, needed) },
         recipe,
     }

@@ -11,15 +11,23 @@ use crate::recipe_stream::{read, Begin, Trial};
 use crate::session::{fill, Session};
 use crate::uart_coverage::{Run, RUN_ROWS};
 
-/// A session with blank memories, own numbers 05 0A, BOOTFL as given, restarted.
+/// A session with blank memories, own numbers 05 0A, BOOTFL as given, restarted, nothing said of
+/// the way.
 pub fn session(bootfl: u8, pin: u8) -> Session {
+    session_in(bootfl, pin, 0)
+}
+
+/// Such a session in the way of this byte.
+pub fn session_in(bootfl: u8, pin: u8, way: u8) -> Session {
     let mut session = Session::new();
     let fixed = [1, 2, 3, 4, 5, 6];
-    session.apply(&Event::Begin { flash: 0xFF, eeprom: 0xFF, fixed, full: 0, step: 0, more: 0 });
+    let (full, step, more, tells_way) = (0, 0, 0, 0);
+    let begin = Event::Begin { flash: 0xFF, eeprom: 0xFF, fixed, full, step, more, tells_way };
+    session.apply(&begin);
     session.eeprom[BOOTFL] = bootfl;
     session.eeprom[MODULE] = 0x05;
     session.eeprom[GROUP] = 0x0A;
-    session.apply(&Event::Restart { pin, self_test: 0 });
+    session.apply(&Event::Restart { pin, self_test: 0, way });
     session
 }
 
@@ -159,14 +167,14 @@ fn order_of_numbers() {
     assert_eq!(can(&mut session, "").0, MEMORY_LENGTH);
     assert_eq!(uart(&mut session, "AA").0, [MEMORY_LENGTH]);
     let before = session.node.clone();
-    let answer = session.apply(&Event::Restart { pin: 1, self_test: 1 }).unwrap();
+    let answer = session.apply(&Event::Restart { pin: 1, self_test: 1, way: 0 }).unwrap();
     assert_eq!((answer.number, &session.node), (MEMORY_LENGTH, &before));
 }
 
-/// Held bytes: skipping, 0xAA inside, CAN in between, 11, a whole frame, restart.
+/// Held bytes in the old way: skipping, 0xAA inside, CAN in between, 11, a whole frame, restart.
 #[test]
 fn held_bytes() {
-    let mut session = session(0x00, 1);
+    let mut session = session_in(0x00, 1, 2);
     assert_eq!(uart(&mut session, "01 02 AA AA AA").0, [INCOMPLETE; 5]);
     assert_eq!(session.node.held[..3], [0xAA; 3]);
     assert_eq!(can(&mut session, PROGRAM).0, DONE);
@@ -178,7 +186,7 @@ fn held_bytes() {
     assert_eq!((numbers[14], session.node.held_count), (NOT_HANDLED, 0));
     uart(&mut session, "AA 01");
     session.eeprom[GROUP] = 0x0B;
-    session.apply(&Event::Restart { pin: 0, self_test: 1 });
+    session.apply(&Event::Restart { pin: 0, self_test: 1, way: 0 });
     assert_eq!((session.node.pin, session.node.mode), (Pin::CanOnly, Mode::Error));
     assert_eq!((session.node.group, session.node.held_count), (0x0B, 0));
 }
@@ -273,7 +281,7 @@ fn wrong_lengths() {
         session.apply(&Event::Lend { flash, eeprom });
         assert_eq!(can(&mut session, PROGRAM).0, MEMORY_LENGTH);
         assert_eq!(uart(&mut session, "AA").0, [MEMORY_LENGTH]);
-        let restart = Event::Restart { pin: 0, self_test: 1 };
+        let restart = Event::Restart { pin: 0, self_test: 1, way: 0 };
         assert_eq!(session.apply(&restart).unwrap().number, MEMORY_LENGTH);
         assert_eq!(session.apply(&Event::Show(0x00_1000)).unwrap().line, [4, 1, 0]);
     }
@@ -294,13 +302,13 @@ fn can_lengths() {
     assert_eq!(can(&mut session, PROGRAM).0, DONE);
 }
 
-/// 0xAA inside noise, a byte too many, a byte too few, and a restart inside a frame: each spoils
-/// one frame, and the next is heard.
+/// 0xAA inside noise, a byte too many, a byte too few, and a restart inside a frame: in the old way
+/// each spoils one frame, and the next is heard.
 #[test]
 fn spoiled_frames() {
     let last = |numbers: Vec<u8>| numbers.last().copied();
     let frame = "AA 10 40 01 01 00 00 05 0A 00 00 00 00 61 A5";
-    let mut session = session(0x00, 1);
+    let mut session = session_in(0x00, 1, 2);
     let noise = format!("2A AA 01 02 {frame}");
     assert_eq!(last(uart(&mut session, &noise).0), Some(INCOMPLETE));
     assert_eq!(session.node.held_count, 0);
@@ -313,20 +321,21 @@ fn spoiled_frames() {
     assert_eq!(uart(&mut session, frame).0[0], BAD_WRAPPING);
     assert_eq!(last(uart(&mut session, frame).0), Some(DONE));
     uart(&mut session, &frame[..3 * 7]);
-    session.apply(&Event::Restart { pin: 1, self_test: 0 });
+    session.apply(&Event::Restart { pin: 1, self_test: 0, way: 2 });
     assert_eq!(uart(&mut session, &frame[3 * 7..]).0, [INCOMPLETE; 8]);
     assert_eq!(session.node.held_count, 0);
     assert_eq!(last(uart(&mut session, frame).0), Some(DONE));
 }
 
-/// The rows that these UART bytes reach in a session, with a restart behind the first so many.
+/// The rows that these UART bytes reach in a session in the old way, with a restart behind the
+/// first so many.
 fn run_rows(all: &str, before_restart: usize) -> Vec<&'static str> {
-    let mut session = session(0x00, 1);
+    let mut session = session_in(0x00, 1, 2);
     let mut run = Run::new();
     let mut rows = Vec::new();
     let mut events: Vec<Event> = bytes(all).into_iter().map(Event::UartByte).collect();
     if before_restart > 0 {
-        events.insert(before_restart, Event::Restart { pin: 1, self_test: 0 });
+        events.insert(before_restart, Event::Restart { pin: 1, self_test: 0, way: 2 });
     }
     for event in events {
         let before = session.node.clone();
@@ -359,7 +368,7 @@ fn round_sums() {
     assert_eq!(firmware_sum(&session.flash), 65_536);
     for (stored, started) in [([1, 0, 0], true), ([0, 0, 0], false), ([2, 0, 0], false)] {
         session.flash[STORED_SUM..][..3].copy_from_slice(&stored);
-        session.apply(&Event::Restart { pin: 0, self_test: 0 });
+        session.apply(&Event::Restart { pin: 0, self_test: 0, way: 0 });
         assert_eq!(session.node.mode, Mode::Normal { started });
     }
     let (number, reply) = can(&mut session, "10 60 01 01 00 00 05 0A 00 00 00 00");
@@ -419,7 +428,7 @@ fn most_items() {
 fn records_read_back() {
     let frame = |length: usize| vec![0x5A; length];
     for event in [
-        Event::Restart { pin: 2, self_test: 3 },
+        Event::Restart { pin: 2, self_test: 3, way: 4 },
         Event::CanFrame(frame(CAN_IN_RECORD)),
         Event::CanFrame([frame(CAN_IN_RECORD), vec![CAN_BEHIND; 207]].concat()),
         Event::UartByte(0xAA),
@@ -434,6 +443,7 @@ fn records_read_back() {
             full: 0x1234,
             step: 9,
             more: 10,
+            tells_way: 11,
         },
         Event::End,
         Event::IdentifierToFrame { identifier: 0x0200_F0F0, data: frame(8), output: 12 },
@@ -443,6 +453,7 @@ fn records_read_back() {
         Event::AddressRule { address: 0x1000, command: 0x101 },
         Event::UartPieces { ring: frame(LONGEST_RING), lengths: vec![7; MOST_CALLS] },
         Event::UartPieces { ring: vec![], lengths: vec![0, 255] },
+        Event::Meant(255),
     ] {
         assert_eq!(Event::read(&event.write()), Some(event));
     }
@@ -470,12 +481,14 @@ fn headers_read_back() {
         more: 6,
         begin,
         piece: 0x1234,
+        way_byte: 5,
+        meant: Way::New,
         output: 70_000,
         recipe: vec![7; 65],
     };
     let mut stream = Vec::new();
     trial.write(&mut stream).unwrap();
     assert_eq!(stream.len(), 3 * RECORD);
-    assert_eq!(stream[38..41], [0x12, 0x34, 0]);
+    assert_eq!(stream[38..42], [0x12, 0x34, 5, 0]);
     assert_eq!(read(&stream), [trial]);
 }

@@ -4,7 +4,7 @@ use crate::digest::Digest;
 use crate::event::{records, Event};
 use crate::frames::{self, FRAME, WRAPPED};
 use crate::memory::{self, Address, Lent, EEPROM_BASE, EEPROM_CELLS, FLASH_CELLS};
-use crate::node::{Node, Outcome, Pin};
+use crate::node::{Node, Outcome, Pin, Way};
 use crate::node_record;
 use std::io::{self, Write};
 
@@ -27,6 +27,10 @@ pub struct Session {
     /// Events so far that had an answer.
     pub events: u64,
     pub full: u16,
+    /// The way that is meant where nothing is said of it, of the whole stream.
+    pub meant: Way,
+    /// Whether answers tell the way.
+    pub tells_way: bool,
     digest: Digest,
     restart: [u64; 2],
     can: [u64; 12],
@@ -49,12 +53,12 @@ impl Answer {
     }
 }
 
-/// Answer bytes of a number, replies of one width, and the node.
-fn with_replies(outcome: &Outcome, width: usize, node: &Node) -> Vec<u8> {
+/// Answer bytes of a number, replies of one width, and the node as bytes.
+fn with_replies(outcome: &Outcome, width: usize, node: Vec<u8>) -> Vec<u8> {
     let mut bytes = vec![outcome.number, outcome.replies.len() as u8];
     bytes.extend(outcome.replies.iter().flatten());
     bytes.resize(2 + 2 * width, 0);
-    bytes.extend(node_record::write_whole(node));
+    bytes.extend(node);
     bytes
 }
 
@@ -86,6 +90,8 @@ impl Session {
             number: 0,
             events: 0,
             full: 0,
+            meant: Way::default(),
+            tells_way: false,
             digest: Digest::default(),
             restart: [0; 2],
             can: [0; 12],
@@ -133,23 +139,24 @@ impl Session {
             eeprom: &mut self.eeprom[..self.lent_eeprom],
         };
         Some(match event {
-            Event::Restart { pin, self_test } => {
+            Event::Restart { pin, self_test, way } => {
                 let pin = if *pin == 0 { Pin::CanOnly } else { Pin::CanAndUart };
-                let mut bytes = vec![self.node.restart(&lent, pin, *self_test == 0)];
-                bytes.extend(node_record::write_whole(&self.node));
+                let way = node_record::way(*way, self.meant);
+                let mut bytes = vec![self.node.restart(&lent, pin, *self_test == 0, way)];
+                bytes.extend(self.node_bytes());
                 bytes
             }
             Event::CanFrame(frame) => {
                 let outcome = self.node.can_frame(&mut lent, frame);
-                with_replies(&outcome, FRAME, &self.node)
+                with_replies(&outcome, FRAME, self.node_bytes())
             }
             Event::UartByte(byte) => {
                 let outcome = self.node.uart_byte(&mut lent, *byte);
-                with_replies(&outcome, WRAPPED, &self.node)
+                with_replies(&outcome, WRAPPED, self.node_bytes())
             }
             Event::UartPieces { .. } => {
                 let (taken, outcome) = self.node.uart_piece(&mut lent, event.piece()?);
-                let mut bytes = with_replies(&outcome, WRAPPED, &self.node);
+                let mut bytes = with_replies(&outcome, WRAPPED, self.node_bytes());
                 bytes.insert(TAKEN_AT - 1, taken as u8);
                 bytes
             }
@@ -189,10 +196,15 @@ impl Session {
         })
     }
 
+    /// The node as an answer ends with it.
+    fn node_bytes(&self) -> Vec<u8> {
+        node_record::write_whole(&self.node, self.tells_way)
+    }
+
     /// Does an event that has no answer.
     fn arrange(&mut self, event: &Event) {
         match event {
-            Event::HandIn(bytes) => self.node = node_record::read(bytes),
+            Event::HandIn(bytes) => self.node = node_record::read(bytes, self.meant),
             Event::Lend { flash, eeprom } => {
                 self.lent_flash = SESSION_FLASH.min(*flash as usize);
                 self.lent_eeprom = SESSION_EEPROM.min(*eeprom as usize);
@@ -202,13 +214,15 @@ impl Session {
                     *cell = *value;
                 }
             }
-            Event::Begin { flash, eeprom, fixed, full, step, more } => {
-                let number = self.number + 1;
-                *self = Session { number, full: *full, ..Session::new() };
+            Event::Begin { flash, eeprom, fixed, full, step, more, tells_way } => {
+                let (number, full, meant) = (self.number + 1, *full, self.meant);
+                let tells_way = *tells_way != 0;
+                *self = Session { number, full, meant, tells_way, ..Session::new() };
                 fill(&mut self.flash, *flash, *step, *more);
                 fill(&mut self.eeprom, *eeprom, *step, *more);
                 self.node = Node::fresh(*fixed);
             }
+            Event::Meant(way) => self.meant = node_record::way(*way, Way::default()),
             _ => {}
         }
     }

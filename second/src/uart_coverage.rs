@@ -3,7 +3,7 @@
 
 use crate::event::Event;
 use crate::frames::{self, FRAME, START, STOP, WRAPPED};
-use crate::node::{Node, HELD};
+use crate::node::{Node, Way, HELD};
 use crate::numbers::*;
 
 /// The rows that a run of bytes may come to.
@@ -58,7 +58,8 @@ impl Run {
         let held = before.tidied().held_count as usize;
         self.met.push(Met { byte: *byte, held, number, between: self.between });
         self.between = Between::Nothing;
-        let found = [self.noise(), self.inserted(), self.lost(), self.restarted()];
+        let swallows = before.way == Way::Old && self.noise();
+        let found = [swallows, self.inserted(), self.lost(), self.restarted()];
         (0..RUN_ROWS.len()).filter(|&row| found[row]).map(|row| RUN_ROWS[row]).collect()
     }
 

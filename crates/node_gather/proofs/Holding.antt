@@ -21,8 +21,7 @@ use Rattle.node_rules.specs.declared.Choices.{Choices}
 use Rattle.node_rules.specs.declared.Receiver.{Receiver}
 use Rattle.node_rules.specs.Record.{padded, receiving, heldIn}
 use Rattle.node_rules.specs.Uart.{incomplete, heldAfterBad}
-use Rattle.node_rules.proofs.Tidying.{held-holdable, holdable-few, held-held}
-use Rattle.node_uart.proofs.Listening.{room-behind}
+use Rattle.node_rules.proofs.Tidying.{held-holdable, holdable-few, held-held, room-behind}
 use Rattle.node_gather.specs.Internal.Gathered.{Gathered, gathered, startOf, atOnce, numberOf, leftOf, Told, keptOf, gatheringOf, gatheredBy}
 use Rattle.node_gather.proofs.Filling.{AsMany, start-few, gathered-is}
 

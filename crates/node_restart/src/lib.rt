@@ -9,15 +9,19 @@ use memory_address::Module;
 use node_rules::Choices;
 use node_rules::Mode;
 use node_rules::Node;
+use node_rules::Noise;
 use node_rules::Pin;
 use node_rules::Plate;
 use node_rules::Restarted;
 
-// What a plain restart chooses: this pin, and for the rest what is meant where nothing is said.
+// What a plain restart chooses: this pin, and for the rest what is meant where nothing is said, after noise the new way.
 fn plain(pin: Pin) -> Choices
     ensures { λ r. ⌜ r ≡ plain pin ⌝ }
 {
-    Choices { pin }
+    Choices {
+        pin,
+        noise: Noise::KeepFromNext,
+    }
 }
 
 // A fresh node with these six fixed bytes: own numbers 0, nothing held, pin CAN only, waiting for restart.

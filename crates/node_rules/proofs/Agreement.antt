@@ -56,7 +56,7 @@ frame-held n xs f =
 module _ (m : Node) (flash eeprom : List ℕ) (isFull : full flash eeprom ≡ true) (pin : m .choices .pin ≡ CanAndUart)
     (hears : isDeaf (m .mode) ≡ false) (tidy : tidyMode (m .mode) ≡ m .mode) where
   -- what the fifteenth byte gives
-  abbrev fifteenth : List ℕ → UartStep
+  abbrev pub fifteenth : List ℕ → UartStep
   fifteenth w =
       cond (rightlyWrapped w) (viaUart (canStep (holding m []) (innerOf w) flash eeprom))
       (silent 11 (holding m (heldAfterBad (m .choices) w)) flash eeprom)
@@ -106,14 +106,14 @@ module _ (m : Node) (flash eeprom : List ℕ) (isFull : full flash eeprom ≡ tr
       ∙ ap (λ (x : Effect). heldDone x (holding m xs) ys flash eeprom) (rw (isFull, ap isClosed pin, hears) refl)
       ∙ judged xs ys (incomplete ys) (rightlyWrapped ys)
 
-  held-more : (x : ℕ) (h : List ℕ) (b : ℕ) → x ≡ 0xAA → length (x ∷ h) ≤ 13
+  pub held-more : (x : ℕ) (h : List ℕ) (b : ℕ) → x ≡ 0xAA → length (x ∷ h) ≤ 13
       → uartStep (holding m (x ∷ h)) b flash eeprom ≡ silent 10 (holding m (x ∷ h ++ (b ∷ []))) flash eeprom
   held-more x h b e l =
       with-byte (x ∷ h) b (e, omega arith) (x ∷ h ++ (b ∷ [])) refl
       ∙ cond-true (incomplete (x ∷ h ++ (b ∷ []))) (silent 10 (holding m (x ∷ h ++ (b ∷ []))) flash eeprom) (fifteenth (x ∷ h ++ (b ∷ [])))
       (lt-ltb (length (x ∷ h ++ (b ∷ []))) 15 (omega (arith, length-append (x ∷ h) (b ∷ []))))
 
-  held-last : (x : ℕ) (h : List ℕ) (b : ℕ) → x ≡ 0xAA → length (x ∷ h) ≡ 14
+  pub held-last : (x : ℕ) (h : List ℕ) (b : ℕ) → x ≡ 0xAA → length (x ∷ h) ≡ 14
       → uartStep (holding m (x ∷ h)) b flash eeprom ≡ fifteenth (x ∷ h ++ (b ∷ []))
   held-last x h b e l =
       with-byte (x ∷ h) b (e, omega arith) (x ∷ h ++ (b ∷ [])) refl
@@ -133,7 +133,7 @@ module _ (m : Node) (flash eeprom : List ℕ) (isFull : full flash eeprom ≡ tr
       (append-assoc h (c ∷ []) (bs ++ (b ∷ []))))
 
   -- a byte where nothing is held
-  first-byte : (b : ℕ) (t : Bool) → eqb b 0xAA ≡ t
+  pub first-byte : (b : ℕ) (t : Bool) → eqb b 0xAA ≡ t
       → uartStep (holding m []) b flash eeprom ≡ silent 10 (holding m (cond t (b ∷ []) [])) flash eeprom
   first-byte b t e = with-byte [] b tt (cond t (b ∷ []) []) (ap (λ (s : Bool). cond s (b ∷ []) []) e) ∙ go t
     where
@@ -175,25 +175,25 @@ pub byte-tidied : (n : Node) (b : ℕ) (flash eeprom : List ℕ) → uartStep n 
 unfolding uartStep
 byte-tidied n b flash eeprom = ap (λ (x : Node). received x b flash eeprom) (sym (tidy-twice n))
 
-frame-tidied : (n : Node) (f flash eeprom : List ℕ) → canStep (tidied n) f flash eeprom ≡ canStep n f flash eeprom
+pub frame-tidied : (n : Node) (f flash eeprom : List ℕ) → canStep (tidied n) f flash eeprom ≡ canStep n f flash eeprom
 unfolding canStep
 frame-tidied n f flash eeprom = ap (λ (x : Node). done (decided x (full flash eeprom) f) x f flash eeprom) (tidy-twice n)
 
 module _ (n : Node) (flash eeprom : List ℕ) (fl : length flash ≡ 65536) (el : length eeprom ≡ 1024)
     (pin : n .choices .pin ≡ CanAndUart) (hears : isDeaf (n .mode) ≡ false) where
-  still-hears : isDeaf (tidied n .mode) ≡ false
+  pub still-hears : isDeaf (tidied n .mode) ≡ false
   unfolding tidied
   still-hears = tidy-deaf (n .mode) ∙ hears
 
-  still-open : tidied n .choices .pin ≡ CanAndUart
+  pub still-open : tidied n .choices .pin ≡ CanAndUart
   unfolding tidied
   still-open = pin
 
-  still-tidy : tidyMode (tidied n .mode) ≡ tidied n .mode
+  pub still-tidy : tidyMode (tidied n .mode) ≡ tidied n .mode
   unfolding tidied
   still-tidy = mode-twice (n .mode)
 
-  bytes-tidied : (b : ℕ) (bs : List ℕ) → bytesIn (b ∷ bs) (state n flash eeprom) ≡ bytesIn (b ∷ bs) (state (tidied n) flash eeprom)
+  pub bytes-tidied : (b : ℕ) (bs : List ℕ) → bytesIn (b ∷ bs) (state n flash eeprom) ≡ bytesIn (b ∷ bs) (state (tidied n) flash eeprom)
   bytes-tidied b bs = ap (λ (s : UartStep). s ∷ bytesIn bs (behindByte s)) (byte-tidied n b flash eeprom)
 
   together : (bs : List ℕ) (b : ℕ) → length (heldOf n ++ (bs ++ (b ∷ []))) ≡ 15 → getD (heldOf n ++ (bs ++ (b ∷ []))) 0 0 ≡ 0xAA
@@ -244,7 +244,7 @@ module _ (n : Node) (flash eeprom : List ℕ) (fl : length flash ≡ 65536) (el 
       go false r = refl
 
   module _ (none : heldOf n ≡ []) where
-    nothing : holding (tidied n) [] ≡ tidied n
+    pub nothing : holding (tidied n) [] ≡ tidied n
     unfolding tidied
     nothing = ap (λ (t : List ℕ). holding (tidied n) t) (sym none)
 

@@ -19,3 +19,6 @@ pub mod Agreement
 pub mod Witnesses
 pub mod AgreementWitness
 pub mod Pinned
+pub mod Eleven
+pub mod Stray
+pub mod StrayWitness

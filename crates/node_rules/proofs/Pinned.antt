@@ -22,22 +22,27 @@ use Rattle.node_rules.specs.declared.Staged.{Staged}
 use Rattle.node_rules.specs.declared.Staged.the-variants.{Nothing, Read, Write, Erase}
 use Rattle.node_rules.specs.declared.Mode.{Mode}
 use Rattle.node_rules.specs.declared.Mode.the-variants.{Normal, Programming, Error, Waiting}
+use Rattle.node_rules.specs.declared.Noise.the-variants.{KeepFromNext}
 use Rattle.node_rules.specs.declared.Node.{Node}
-use Rattle.node_rules.specs.Record.{heldIn, heldOf, legalStaged, tidied, freshNode}
+use Rattle.node_rules.specs.Record.{heldIn, heldOf, legalStaged, tidied, plain, freshNode}
 use Rattle.node_rules.specs.Requests.{handledTypes, found}
 use Rattle.node_rules.specs.Outcomes.{decided}
 use Rattle.node_rules.specs.Step.{done, canStep}
 use Rattle.node_rules.specs.Uart.{heldWith, heldAfterBad, heldDecided, heldDone, uartStep, silent}
 use Rattle.node_rules.specs.Reading.{leaves}
-use Rattle.node_rules.specs.Examples.{node050A, Row, canRow, uartRow, bothRow, OnCan, OnUart, RowHolds, AllHold, allButStop, asking, refusals, MayBeStaged, described}
+use Rattle.node_rules.specs.Examples.{node050A, noisy, Row, canRow, uartRow, bothRow, noiseRow, OnCan, OnUart, RowHolds, AllHold, allButStop, asking, refusals, MayBeStaged, described}
 
 -- "A fresh node takes the six bytes, has own numbers 0, no bytes held, pin CAN only, and waits for restart."
 pub fresh-says : (six : List ℕ) → (freshNode six .plate .fixed ≡ six)
     × (freshNode six .plate .own .0 ≡ 0) × (freshNode six .plate .group .0 ≡ 0)
     × (freshNode six .receiver .count ≡ 0) × (freshNode six .receiver .held ≡ replicate 15 0)
-    × (freshNode six .choices .pin ≡ CanOnly) × (freshNode six .mode ≡ Waiting)
+    × (freshNode six .choices .pin ≡ CanOnly) × (freshNode six .choices .noise ≡ KeepFromNext) × (freshNode six .mode ≡ Waiting)
 unfolding freshNode
-fresh-says six = (refl, refl, refl, refl, refl, refl, refl)
+fresh-says six = (refl, refl, refl, refl, refl, refl, refl, refl)
+
+-- "A plain restart": this pin, and the new way after noise
+pub plain-says : (p : Pin) → (plain p .pin ≡ p) × (plain p .noise ≡ KeepFromNext)
+plain-says p = (refl, refl)
 
 -- ---- "A staged command that isn't legal counts as none"
 
@@ -80,16 +85,18 @@ CanComputes number sized m f m′ = (flash eeprom : List ℕ)
     → let n = tidied (node050A CanOnly m []) in
     done (decided n sized f) n f flash eeprom ≡ leaves number 0 (replicate 24 0) (node050A CanOnly m′ []) flash eeprom
 
-abbrev UartComputes : ℕ → Bool → Pin → Mode → List ℕ → ℕ → List ℕ → Mode → Type 0
-UartComputes number sized p m xs b xs′ m′ = (flash eeprom : List ℕ)
-    → let n = tidied (node050A p m xs) in
+abbrev UartComputes : ℕ → Bool → Node → ℕ → Node → Type 0
+UartComputes number sized m b m′ = (flash eeprom : List ℕ)
+    → let n = tidied m in
     let with = heldWith (heldOf n) b in
-    heldDone (heldDecided n sized with) n with flash eeprom ≡ silent number (node050A p m′ xs′) flash eeprom
+    heldDone (heldDecided n sized with) n with flash eeprom ≡ silent number m′ flash eeprom
 
 abbrev Computes : Row → Type 0
 Computes (canRow number sized m f m′) = CanComputes number sized m f m′
-Computes (uartRow number sized p m xs b xs′) = UartComputes number sized p m xs b xs′ m
-Computes (bothRow number m f m′) = CanComputes number true m f m′ × UartComputes number true CanAndUart m (allButStop f) 0xA5 [] m′
+Computes (uartRow number sized p m xs b xs′) = UartComputes number sized (node050A p m xs) b (node050A p m xs′)
+Computes (bothRow number m f m′) =
+    CanComputes number true m f m′ × UartComputes number true (node050A CanAndUart m (allButStop f)) 0xA5 (node050A CanAndUart m′ [])
+Computes (noiseRow way xs b xs′) = UartComputes 11 true (noisy way xs) b (noisy way xs′)
 
 abbrev AllCompute : List Row → Type 0
 AllCompute [] = Unit {0}
@@ -101,21 +108,22 @@ can-computed number sized m f m′ e flash eeprom h =
     let n = tidied (node050A CanOnly m []) in
     ap (λ (b : Bool). done (decided n b f) n f flash eeprom) h ∙ e flash eeprom
 
-uart-computed : (number : ℕ) (sized : Bool) (p : Pin) (m : Mode) (xs : List ℕ) (b : ℕ) (xs′ : List ℕ) (m′ : Mode)
-    → UartComputes number sized p m xs b xs′ m′ → OnUart number sized p m xs b xs′ m′
+uart-computed : (number : ℕ) (sized : Bool) (m : Node) (b : ℕ) (m′ : Node)
+    → UartComputes number sized m b m′ → OnUart number sized m b m′
 unfolding uartStep
-uart-computed number sized p m xs b xs′ m′ e flash eeprom h =
-    let n = tidied (node050A p m xs) in
+uart-computed number sized m b m′ e flash eeprom h =
+    let n = tidied m in
     let with = heldWith (heldOf n) b in
     ap (λ (s : Bool). heldDone (heldDecided n s with) n with flash eeprom) h ∙ e flash eeprom
 
 row-computed : (r : Row) → Computes r → RowHolds r
 row-computed (canRow number sized m f m′) e = can-computed number sized m f m′ e
-row-computed (uartRow number sized p m xs b xs′) e = uart-computed number sized p m xs b xs′ m e
+row-computed (uartRow number sized p m xs b xs′) e = uart-computed number sized (node050A p m xs) b (node050A p m xs′) e
 row-computed (bothRow number m f m′) e = (
   can-computed number true m f m′ (e .0),
-  uart-computed number true CanAndUart m (allButStop f) 0xA5 [] m′ (e .1),
+  uart-computed number true (node050A CanAndUart m (allButStop f)) 0xA5 (node050A CanAndUart m′ []) (e .1),
 )
+row-computed (noiseRow way xs b xs′) e = uart-computed 11 true (noisy way xs) b (noisy way xs′) e
 
 all-computed : (rs : List Row) → AllCompute rs → AllHold rs
 all-computed [] e = tt
@@ -136,7 +144,9 @@ refusals-hold = all-computed refusals (
     (λ _ _. refl, λ _ _. refl) & (λ _ _. refl, λ _ _. refl) & (λ _ _. refl, λ _ _. refl) & (λ _ _. refl, λ _ _. refl) &
     (λ _ _. refl, λ _ _. refl) & (λ _ _. refl, λ _ _. refl) & (λ _ _. refl, λ _ _. refl) & (λ _ _. refl, λ _ _. refl) &
     (λ _ _. refl, λ _ _. refl) & (λ _ _. refl, λ _ _. refl) & (λ _ _. refl, λ _ _. refl) & (λ _ _. refl) & (λ _ _. refl) &
-    (λ _ _. refl) & (λ _ _. refl) & (λ _ _. refl) & (λ _ _. refl) & (λ _ _. refl) & (λ _ _. refl) & (λ _ _. refl, λ _ _. refl) &
+    (λ _ _. refl) & (λ _ _. refl) & (λ _ _. refl) & (λ _ _. refl) & (λ _ _. refl) & (λ _ _. refl) &
+    (λ _ _. refl) & (λ _ _. refl) & (λ _ _. refl) & (λ _ _. refl) & (λ _ _. refl) & (λ _ _. refl) & (λ _ _. refl) & (λ _ _. refl) &
+    (λ _ _. refl) & (λ _ _. refl) & (λ _ _. refl) & (λ _ _. refl) & (λ _ _. refl, λ _ _. refl) &
     (λ _ _. refl, λ _ _. refl) & (λ _ _. refl, λ _ _. refl) & (λ _ _. refl, λ _ _. refl) & (λ _ _. refl, λ _ _. refl) &
     (λ _ _. refl, λ _ _. refl) & (λ _ _. refl, λ _ _. refl) & (λ _ _. refl, λ _ _. refl) & (λ _ _. refl, λ _ _. refl) &
     (λ _ _. refl, λ _ _. refl) & (λ _ _. refl, λ _ _. refl) & (λ _ _. refl, λ _ _. refl) & tt)

@@ -5,11 +5,12 @@ use mathlib.Core.Path.{_≡_, _∙_, refl, sym, ap, subst}
 use mathlib.Core.Bool.{Bool, true, false, _&&_, cond, false≢true}
 use mathlib.Core.List.{List, [], _∷_}
 use mathlib.Core.Logic.{_⊎_, inl, inr}
-use Prim.Native.Nat.{ℕ}
+use Prim.Native.Nat.{ℕ, _≤_}
 use native.Mathlib.Omega.{arith}
 use lib.Dec.{eqb, leb}
-use lib.ListN.{length, getD}
-use borrow.Author.Tests.{eqb-true, ltb-true}
+use lib.ListN.{length, getD, drop, length-take}
+use borrow.Author.Tests.{eqb-true, ltb-true, not-true}
+use Rattle.base.specs.Parts.{part}
 use Rattle.base.proofs.Choice.{by-cond}
 use Rattle.memory_address.specs.Places.{full}
 use Rattle.memory_address.specs.Rule.{ruled, isFlash, isEeprom, isLegal, legalFlash, legalEeprom, cellsOf}
@@ -21,7 +22,7 @@ use Rattle.memory_address.specs.declared.Ruled.the-variants.{Legal, Illegal}
 use Rattle.memory_address.proofs.Laws.{Within, ruled-within, legal-command, no-eeprom-erase}
 use Rattle.memory_sum.specs.Sum.{starts}
 use Rattle.frame_rules.specs.Frame.{typeOf}
-use Rattle.frame_rules.specs.Wrapping.{innerOf}
+use Rattle.frame_rules.specs.Wrapping.{innerOf, rightlyWrapped}
 use Rattle.node_rules.specs.declared.Staged.{Staged}
 use Rattle.node_rules.specs.declared.Staged.the-variants.{Nothing, Read, Write, Erase}
 use Rattle.node_rules.specs.declared.Mode.{Mode}
@@ -30,6 +31,8 @@ use Rattle.node_rules.specs.declared.Request.{Request}
 use Rattle.node_rules.specs.declared.Request.the-variants.{EnterProgramming, WaitForRestart, HardwareType, FirmwareType, Description, DeviceId, LeaveProgramming, AddressFrame, DataFrame}
 use Rattle.node_rules.specs.declared.Found.{Found}
 use Rattle.node_rules.specs.declared.Found.the-variants.{Handled, Unhandled}
+use Rattle.node_rules.specs.declared.Noise.{Noise}
+use Rattle.node_rules.specs.declared.Noise.the-variants.{KeepFromNext, DropAll}
 use Rattle.node_rules.specs.declared.Choices.{Choices}
 use Rattle.node_rules.specs.declared.Node.{Node}
 use Rattle.node_rules.specs.declared.Restarted.{Restarted}
@@ -41,7 +44,7 @@ use Rattle.node_rules.specs.Requests.{found, D, addressIn, commandAt, st
 use Rattle.node_rules.specs.Outcomes.{Outcome, refused, frameOutcomes, canOutcomes, unless, askedOf, decided}
 use Rattle.node_rules.specs.Step.{nodeAfter, done, canStep}
 use Rattle.node_rules.specs.Restart.{modeReached, restartedIn, restartStep}
-use Rattle.node_rules.specs.Uart.{heldWith, incomplete, heldOutcomes, heldAfterBad, heldAfter, heldDecided, uartStep}
+use Rattle.node_rules.specs.Uart.{heldWith, incomplete, heldOutcomes, fromStart, keptBy, heldAfterBad, heldAfter, heldDecided, uartStep}
 use Rattle.node_rules.proofs.Tidying.{held-holdable, holding-tidy, tidy-twice, tidied-mode, mode-tidy}
 use Rattle.node_rules.proofs.Deciding.{unless-every, unless-by, among-cases, frame-among, asked-of-zero}
 
@@ -131,35 +134,60 @@ with-holdable [] b h e = go (eqb b 0xAA) refl
     go false q = tt
 with-holdable (x ∷ xs) b h e = (h .0, omega (arith, ltb-true (length (heldWith (x ∷ xs) b)) 15 e))
 
--- THE LAW of what stays held after 11: it may be held
+-- at most 14 bytes from the first 0xAA among them on may be held
+start-holdable : (bs : List ℕ) → length bs ≤ 14 → Holdable (fromStart bs)
+start-holdable [] l = tt
+start-holdable (b ∷ bs) l =
+    by-cond Holdable (eqb b 0xAA) (b ∷ bs) (fromStart bs) (λ e. (eqb-true b 0xAA e, omega arith)) (λ _. start-holdable bs (omega arith))
+
+kept-holdable : (way : Noise) (fifteen : List ℕ) → Holdable (keptBy way fifteen)
+kept-holdable KeepFromNext fifteen = start-holdable (part fifteen 1 14) (omega (arith, length-take 14 (drop 1 fifteen)))
+kept-holdable DropAll fifteen = tt
+
+-- THE LAW of what stays held after 11, in each way: it may be held
 pub bad-holdable : (c : Choices) (fifteen : List ℕ) → Holdable (heldAfterBad c fifteen)
 unfolding heldAfterBad
-bad-holdable c fifteen = tt
+bad-holdable c fifteen = kept-holdable (c .noise) fifteen
 
--- 10 comes only where the frame is incomplete
-pub only-ten : (n : Node) (full : Bool) (xs : List ℕ) → heldDecided n full xs .number ≡ 10 → incomplete xs ≡ true
-only-ten n full xs =
-    let Q : ℕ → Type 0 = λ number. number ≡ 10 → incomplete xs ≡ true in
-    let other : (number : ℕ) → (number ≡ 10 → ⊥) → Q number = λ number m e. absurd (m e) in
+-- 10 comes only where the frame is incomplete, and 11 only where it is complete and not right
+abbrev SaysHeld : List ℕ → ℕ → Type 0
+SaysHeld xs number =
+    (number ≡ 10 → incomplete xs ≡ true) × (number ≡ 11 → (incomplete xs ≡ false) × (rightlyWrapped xs ≡ false))
+
+10-not-11 : _≡_ {A = ℕ} 10 11 → ⊥
+10-not-11 e = omega arith
+
+says-held : (n : Node) (full : Bool) (xs : List ℕ) → SaysHeld xs (heldDecided n full xs .number)
+says-held n full xs =
+    let Q : ℕ → Type 0 = SaysHeld xs in
+    let other : (number : ℕ) → (number ≡ 10 → ⊥) → (number ≡ 11 → ⊥) → Q number = λ number m k. (λ e. absurd (m e), λ e. absurd (k e)) in
     unless-by (λ (e : Effect). Q (e .number)) (heldOutcomes n full xs) (askedOf n (innerOf xs)) (
-      λ _. other 1 (λ e. omega arith),
+      λ _. other 1 (λ e. omega arith) (λ e. omega arith),
       λ _. (
-        λ _. other 2 (λ e. omega arith),
+        λ _. other 2 (λ e. omega arith) (λ e. omega arith),
         λ _. (
-          λ _. other 3 (λ e. omega arith),
+          λ _. other 3 (λ e. omega arith) (λ e. omega arith),
           λ _. (
-            λ i e. i,
-            λ _. (
-              λ _. other 11 (λ e. omega arith),
+            λ i. (λ _. i, λ e. absurd (10-not-11 e)),
+            λ i. (
+              λ w. (λ e. absurd (10-not-11 (sym e)), λ _. (i, not-true (rightlyWrapped xs) w)),
               λ _. among-cases Q (frameOutcomes n (innerOf xs)) (askedOf n (innerOf xs))
-                  (frame-among Q n (innerOf xs) (other 4 (λ e. omega arith)) (other 5 (λ e. omega arith)) (other 6 (λ e. omega arith))
-                  (other 7 (λ e. omega arith)) (other 8 (λ e. omega arith)) (other 9 (λ e. omega arith)))
-                  (asked-of-zero n (innerOf xs)) (other 0 (λ e. omega arith)),
+                  (frame-among Q n (innerOf xs) (other 4 (λ e. omega arith) (λ e. omega arith)) (other 5 (λ e. omega arith) (λ e. omega arith))
+                  (other 6 (λ e. omega arith) (λ e. omega arith)) (other 7 (λ e. omega arith) (λ e. omega arith))
+                  (other 8 (λ e. omega arith) (λ e. omega arith)) (other 9 (λ e. omega arith) (λ e. omega arith)))
+                  (asked-of-zero n (innerOf xs)) (other 0 (λ e. omega arith) (λ e. omega arith)),
             ),
           ),
         ),
       ),
     )
+
+pub only-ten : (n : Node) (full : Bool) (xs : List ℕ) → heldDecided n full xs .number ≡ 10 → incomplete xs ≡ true
+only-ten n full xs = says-held n full xs .0
+
+pub only-eleven : (n : Node) (full : Bool) (xs : List ℕ) → heldDecided n full xs .number ≡ 11
+    → (incomplete xs ≡ false) × (rightlyWrapped xs ≡ false)
+only-eleven n full xs = says-held n full xs .1
 
 -- whatever the number, where 10 comes only with a frame that is incomplete
 after-holdable : (number : ℕ) (n : Node) (xs : List ℕ) → (number ≡ 10 → Holdable xs) → Holdable (heldAfter number n xs)

@@ -1,13 +1,13 @@
 -- Tidying: at most 14 bytes are held, tidying twice is tidying once, and a tidied record holds what it held.
 -- Assumes nothing.
-use mathlib.Core.Path.{_≡_, refl, ap}
+use mathlib.Core.Path.{_≡_, _∙_, refl, sym, ap}
 use mathlib.Core.Bool.{Bool, true, false, cond}
-use mathlib.Core.List.{List, [], _∷_}
+use mathlib.Core.List.{List, [], _∷_, _++_, append-assoc}
 use Prim.Native.Nat.{ℕ, zero, suc, _-_, _≤_}
 use native.Mathlib.Omega.{arith}
 use lib.Dec.{leb, eqb}
-use lib.ListN.{length, getD, take, replicate, length-take}
-use lib.Seq.{take-at}
+use lib.ListN.{length, getD, take, set, replicate, length-take, length-append}
+use lib.Seq.{take-at, set-at}
 use borrow.Author.Tests.{leb-true, le-leb, eqb-true, eq-eqb}
 use Rattle.base.proofs.Choice.{by-cond, both-true}
 use Rattle.node_rules.specs.declared.Staged.{Staged}
@@ -16,7 +16,7 @@ use Rattle.node_rules.specs.declared.Mode.{Mode}
 use Rattle.node_rules.specs.declared.Mode.the-variants.{Normal, Programming, Error, Waiting}
 use Rattle.node_rules.specs.declared.Receiver.{Receiver}
 use Rattle.node_rules.specs.declared.Node.{Node}
-use Rattle.node_rules.specs.Record.{Holdable, receiving, holding, withMode, mayHold, heldIn, heldOf, legalStaged, tidyStaged, tidyMode, tidied}
+use Rattle.node_rules.specs.Record.{Holdable, padded, receiving, holding, withMode, mayHold, heldIn, heldOf, legalStaged, tidyStaged, tidyMode, tidied}
 
 first-holdable : (h : List ℕ) (count : ℕ) → count ≤ 14 → getD h 0 0 ≡ 0xAA → Holdable (take count h)
 first-holdable h zero l e = tt
@@ -43,6 +43,16 @@ held-held [] h = refl
 held-held (x ∷ xs) h =
     simp (le-leb (length (x ∷ xs)) 14 (holdable-few (x ∷ xs) h), eq-eqb x 0xAA (h .0))
     (take-at (x ∷ xs) (replicate (15 - length (x ∷ xs)) 0) (length (x ∷ xs)) refl)
+
+-- one byte more behind those that are held
+pub room-behind : (xs : List ℕ) (b : ℕ) → length xs ≤ 14 → set (padded xs) (length xs) b ≡ padded (xs ++ (b ∷ []))
+room-behind xs b l =
+    let k : 15 - length xs ≡ suc (14 - length xs) = omega arith in
+    let j : 15 - length (xs ++ (b ∷ [])) ≡ 14 - length xs = omega (arith, length-append xs (b ∷ [])) in
+    ap (λ (m : ℕ). set (xs ++ replicate m 0) (length xs) b) k
+    ∙ set-at xs 0 (replicate (14 - length xs) 0) b (length xs) refl
+    ∙ sym (append-assoc xs (b ∷ []) (replicate (14 - length xs) 0))
+    ∙ ap (λ (m : ℕ). (xs ++ (b ∷ [])) ++ replicate m 0) (sym j)
 
 pub tidy-held : (n : Node) → heldOf (tidied n) ≡ heldOf n
 unfolding tidied

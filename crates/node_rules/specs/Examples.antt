@@ -18,29 +18,41 @@ use Rattle.node_rules.specs.declared.Staged.{Staged}
 use Rattle.node_rules.specs.declared.Staged.the-variants.{Nothing, Read, Write, Erase}
 use Rattle.node_rules.specs.declared.Mode.{Mode}
 use Rattle.node_rules.specs.declared.Mode.the-variants.{Normal, Programming, Error, Waiting}
+use Rattle.node_rules.specs.declared.Noise.{Noise}
+use Rattle.node_rules.specs.declared.Noise.the-variants.{KeepFromNext, DropAll}
+use Rattle.node_rules.specs.declared.Choices.{Choices}
 use Rattle.node_rules.specs.declared.Node.{Node}
 use Rattle.node_rules.specs.Record.{receiving, plain}
 use Rattle.node_rules.specs.Step.{canStep}
 use Rattle.node_rules.specs.Uart.{uartStep, silent}
 use Rattle.node_rules.specs.Reading.{leaves, eightOf}
 
--- node 05, 0A in a mode, with a pin, holding xs
-abbrev pub node050A : Pin → Mode → List ℕ → Node
-node050A p m xs =
+-- node 05, 0A with these choices in a mode, holding xs; and with a pin and nothing else said
+abbrev pub chosen050A : Choices → Mode → List ℕ → Node
+chosen050A c m xs =
     record {
-      choices = plain p;
+      choices = c;
       plate = record { fixed = replicate 6 0; own = record { 0 = 0x05 }; group = record { 0 = 0x0A } };
       receiver = receiving xs;
       mode = m;
     }
 
+abbrev pub node050A : Pin → Mode → List ℕ → Node
+node050A p m xs = chosen050A (plain p) m xs
+
 -- on CAN: the number, whether both memories have their size, a mode, a frame, the mode afterwards
 -- on UART: the number, whether both memories have their size, a pin, a mode, the bytes that are held, a byte, the bytes held afterwards
 -- on both ports, over full memories: the number, a mode, a frame that comes whole, the mode afterwards
+-- 11 in a way that was chosen, over full memories in normal mode: the way, the bytes that are held, a byte, the bytes held afterwards
 pub data Row : Type 0 where
   canRow : ℕ → Bool → Mode → List ℕ → Mode → Row
   uartRow : ℕ → Bool → Pin → Mode → List ℕ → ℕ → List ℕ → Row
   bothRow : ℕ → Mode → List ℕ → Mode → Row
+  noiseRow : Noise → List ℕ → ℕ → List ℕ → Row
+
+-- a node in normal mode with this way, holding xs
+abbrev pub noisy : Noise → List ℕ → Node
+noisy way xs = chosen050A (record { pin = CanAndUart; noise = way }) (Normal false) xs
 
 -- what is held of a frame before its last byte: "0xAA, the 12 bytes, the sum of the 12 modulo 256"
 abbrev pub allButStop : List ℕ → List ℕ
@@ -50,15 +62,17 @@ abbrev pub OnCan : ℕ → Bool → Mode → List ℕ → Mode → Type 0
 OnCan number sized m f m′ = (flash eeprom : List ℕ) → full flash eeprom ≡ sized
     → canStep (node050A CanOnly m []) f flash eeprom ≡ leaves number 0 (replicate 24 0) (node050A CanOnly m′ []) flash eeprom
 
-abbrev pub OnUart : ℕ → Bool → Pin → Mode → List ℕ → ℕ → List ℕ → Mode → Type 0
-OnUart number sized p m xs b xs′ m′ = (flash eeprom : List ℕ) → full flash eeprom ≡ sized
-    → uartStep (node050A p m xs) b flash eeprom ≡ silent number (node050A p m′ xs′) flash eeprom
+abbrev pub OnUart : ℕ → Bool → Node → ℕ → Node → Type 0
+OnUart number sized n b n′ = (flash eeprom : List ℕ) → full flash eeprom ≡ sized
+    → uartStep n b flash eeprom ≡ silent number n′ flash eeprom
 
 -- what a row says, of any memories; on UART, where the mode stays, and where a frame comes whole, whose last byte leaves nothing held
 abbrev pub RowHolds : Row → Type 0
 RowHolds (canRow number sized m f m′) = OnCan number sized m f m′
-RowHolds (uartRow number sized p m xs b xs′) = OnUart number sized p m xs b xs′ m
-RowHolds (bothRow number m f m′) = OnCan number true m f m′ × OnUart number true CanAndUart m (allButStop f) 0xA5 [] m′
+RowHolds (uartRow number sized p m xs b xs′) = OnUart number sized (node050A p m xs) b (node050A p m xs′)
+RowHolds (bothRow number m f m′) =
+    OnCan number true m f m′ × OnUart number true (node050A CanAndUart m (allButStop f)) 0xA5 (node050A CanAndUart m′ [])
+RowHolds (noiseRow way xs b xs′) = OnUart 11 true (noisy way xs) b (noisy way xs′)
 
 abbrev pub AllHold : List Row → Type 0
 AllHold [] = Unit {0}
@@ -78,6 +92,14 @@ telling b1 b2 m g d0 d1 d2 d5 = b1 ∷ b2 ∷ m ∷ g ∷ eightOf d0 d1 d2 0xFF 
 -- 0x040 to node 05, 0A
 abbrev pub data040 : List ℕ
 data040 = telling 0x04 0x00 0x05 0x0A 0x00 0x00 0x00 0x00
+
+-- S3 behind a stray 0xAA
+abbrev pub strayS3 : List ℕ
+strayS3 = 0xAA ∷ allButStop (asking 0x10 0x00 0x05 0x0A) ++ (0xA5 ∷ [])
+
+-- twelve bytes, all different
+abbrev pub oneToTwelve : List ℕ
+oneToTwelve = 1 ∷ 2 ∷ 3 ∷ 4 ∷ 5 ∷ 6 ∷ 7 ∷ 8 ∷ 9 ∷ 10 ∷ 11 ∷ 12 ∷ []
 
 -- the table
 abbrev pub refusals : List Row
@@ -154,6 +176,22 @@ refusals =
     canRow 3 true Waiting data040 Waiting ∷
     uartRow 3 true CanAndUart Error (allButStop data040) 0xA5 (allButStop data040) ∷
     uartRow 3 true CanAndUart Waiting (allButStop data040) 0xA5 (allButStop data040) ∷
+    -- 11 IN EACH WAY
+    -- an 0xAA that is the second byte, or the fifteenth; two among the others, of which the first decides; none
+    noiseRow KeepFromNext (0xAA ∷ 0xAA ∷ oneToTwelve) 0x0D (0xAA ∷ oneToTwelve ++ (0x0D ∷ [])) ∷
+    noiseRow KeepFromNext (0xAA ∷ oneToTwelve ++ (0x0D ∷ [])) 0xAA (0xAA ∷ []) ∷
+    noiseRow KeepFromNext (0xAA ∷ eightOf 1 2 0xAA 4 5 6 7 8 ++ (0xAA ∷ 10 ∷ 11 ∷ 12 ∷ 13 ∷ [])) 14
+        (0xAA ∷ 4 ∷ 5 ∷ 6 ∷ 7 ∷ 8 ∷ 0xAA ∷ 10 ∷ 11 ∷ 12 ∷ 13 ∷ 14 ∷ []) ∷
+    noiseRow KeepFromNext (0xAA ∷ oneToTwelve ++ (0x0D ∷ [])) 0x0E [] ∷
+    noiseRow DropAll (0xAA ∷ 0xAA ∷ oneToTwelve) 0x0D [] ∷
+    noiseRow DropAll (0xAA ∷ oneToTwelve ++ (0x0D ∷ [])) 0xAA [] ∷
+    noiseRow DropAll (0xAA ∷ eightOf 1 2 0xAA 4 5 6 7 8 ++ (0xAA ∷ 10 ∷ 11 ∷ 12 ∷ 13 ∷ [])) 14 [] ∷
+    noiseRow DropAll (0xAA ∷ oneToTwelve ++ (0x0D ∷ [])) 0x0E [] ∷
+    -- a right sum and a wrong stop; a wrong sum and a right stop
+    noiseRow KeepFromNext (allButStop (asking 0x10 0x40 0xAA 0x0A)) 0xA6 (0xAA ∷ 0x0A ∷ 0xFF ∷ 0xFF ∷ 0xFF ∷ 0xFF ∷ 0xDE ∷ 0xA6 ∷ []) ∷
+    noiseRow KeepFromNext (0xAA ∷ asking 0x10 0x40 0x05 0x0A ++ (0xAA ∷ [])) 0xA5 (0xAA ∷ 0xA5 ∷ []) ∷
+    noiseRow DropAll (allButStop (asking 0x10 0x40 0xAA 0x0A)) 0xA6 [] ∷
+    noiseRow DropAll (0xAA ∷ asking 0x10 0x40 0x05 0x0A ++ (0xAA ∷ [])) 0xA5 [] ∷
     -- "A staged command that isn't legal counts as none"
     bothRow 9 (Programming (Read (Flash (record { 0 = 0x000FF8 })))) data040 (Programming Nothing) ∷
     bothRow 9 (Programming (Read (Flash (record { 0 = 0x001004 })))) data040 (Programming Nothing) ∷

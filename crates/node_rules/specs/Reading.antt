@@ -8,10 +8,13 @@ use lib.ListN.{getD, replicate}
 use Rattle.base.specs.Parts.{part, sumOf, highFirst}
 use Rattle.node_rules.specs.declared.Staged.{Staged}
 use Rattle.node_rules.specs.declared.Mode.the-variants.{Programming}
+use Rattle.node_rules.specs.declared.Noise.{Noise}
+use Rattle.node_rules.specs.declared.Noise.the-variants.{KeepFromNext, DropAll}
 use Rattle.node_rules.specs.declared.Plate.{Plate}
 use Rattle.node_rules.specs.declared.Node.{Node}
 use Rattle.node_rules.specs.Record.{withMode, tidied}
 use Rattle.node_rules.specs.Step.{Step, canStep}
+use Rattle.node_rules.specs.Runs.{NoStart}
 
 -- all that a call leaves: the number, how many replies, their 24 bytes, the node, FLASH, EEPROM
 abbrev pub leaves : ℕ → ℕ → List ℕ → Node → List ℕ → List ℕ → Step
@@ -63,6 +66,13 @@ ToNode p d2 d3 = (d2 ≡ p .own .0) × (d3 ≡ p .group .0)
 abbrev pub NoneIs : List ℕ → ℕ → Type 0
 NoneIs [] t = Unit {0}
 NoneIs (x ∷ xs) t = (x ≡ t → ⊥) × NoneIs xs t
+
+-- 11: what stays held of fifteen bytes, in each way. The new way: the first byte is dropped, and so are those behind it that are not 0xAA;
+-- what stays starts with 0xAA, or is nothing. The old way: nothing.
+abbrev pub StaysOf : Noise → List ℕ → List ℕ → Type 0
+StaysOf KeepFromNext fifteen held =
+    (first : ℕ) × (passed : List ℕ) × (fifteen ≡ first ∷ passed ++ held) × NoStart passed × ((held ≡ []) ⊎ (getD held 0 0 ≡ 0xAA))
+StaysOf DropAll fifteen held = held ≡ []
 
 -- "stored sum equals firmware sum", by place
 abbrev pub SumsAgree : List ℕ → Type 0

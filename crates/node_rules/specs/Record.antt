@@ -10,6 +10,7 @@ use Rattle.memory_address.specs.declared.Address.{Address}
 use Rattle.memory_address.specs.declared.Address.the-variants.{Flash, Eeprom}
 use Rattle.node_rules.specs.declared.Pin.{Pin}
 use Rattle.node_rules.specs.declared.Pin.the-variants.{CanOnly}
+use Rattle.node_rules.specs.declared.Noise.the-variants.{KeepFromNext}
 use Rattle.node_rules.specs.declared.Staged.{Staged}
 use Rattle.node_rules.specs.declared.Staged.the-variants.{Nothing, Read, Write, Erase}
 use Rattle.node_rules.specs.declared.Mode.{Mode}
@@ -73,9 +74,10 @@ tidyMode Waiting = Waiting
 unfoldable pub tidied : Node → Node
 tidied n = withMode (holding n (heldOf n)) (tidyMode (n .mode))
 
--- what a plain restart chooses: this pin, and for the rest what is meant where nothing is said
+-- what a plain restart chooses: this pin, and for the rest what is meant where nothing is said. After noise ("From now on the default on
+-- 11 is") that is the new way; the old one must be asked for "by name".
 abbrev pub plain : Pin → Choices
-plain pin = record { pin = pin }
+plain pin = record { pin = pin; noise = KeepFromNext }
 
 -- "A fresh node takes the six bytes, has own numbers 0, no bytes held, pin CAN only, and waits for restart."
 unfoldable pub freshNode : List ℕ → Node

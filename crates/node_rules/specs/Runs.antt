@@ -1,8 +1,11 @@
 -- Calls one after the other, each to the node and the memories that the one before left.
 use Prim.Native.Nat.{ℕ}
 use mathlib.Core.Path.{_≡_}
+use mathlib.Core.Bool.{false}
 use mathlib.Core.List.{List, [], _∷_, _++_}
-use lib.ListN.{replicate}
+use mathlib.Core.Logic.{_⊎_}
+use lib.ListN.{take, replicate}
+use Rattle.frame_rules.specs.Wrapping.{rightlyWrapped}
 use Rattle.node_rules.specs.declared.Node.{Node}
 use Rattle.node_rules.specs.declared.Memory.{Memory}
 use Rattle.node_rules.specs.Step.{Step, canStep, flashAfter, eepromAfter}
@@ -48,17 +51,29 @@ collected n xs [] flash eeprom = []
 collected n xs (b ∷ bs) flash eeprom =
     silent 10 (holding n (xs ++ (b ∷ []))) flash eeprom ∷ collected n (xs ++ (b ∷ [])) bs flash eeprom
 
--- each step is 10, with no reply and memories untouched
+-- each step has a number of which this holds, with no reply and memories untouched
+abbrev pub EachSilent : (ℕ → Type 0) → List ℕ → List ℕ → List UartStep → Type 0
+EachSilent P flash eeprom [] = Unit {0}
+EachSilent P flash eeprom (s ∷ ss) =
+    P (s .answer .number) × (s .answer .count ≡ 0) × (s .answer .replies ≡ replicate 30 0) × (s .flash ≡ flash) × (s .eeprom ≡ eeprom)
+    × EachSilent P flash eeprom ss
+
+-- each step is 10; each is 10 or 11
 abbrev pub AllTen : List ℕ → List ℕ → List UartStep → Type 0
-AllTen flash eeprom [] = Unit {0}
-AllTen flash eeprom (s ∷ ss) =
-    (s .answer .number ≡ 10) × (s .answer .count ≡ 0) × (s .answer .replies ≡ replicate 30 0) × (s .flash ≡ flash) × (s .eeprom ≡ eeprom)
-    × AllTen flash eeprom ss
+AllTen = EachSilent (λ (number : ℕ). number ≡ 10)
+
+abbrev pub TensAndElevens : List ℕ → List ℕ → List UartStep → Type 0
+TensAndElevens = EachSilent (λ (number : ℕ). (number ≡ 10) ⊎ (number ≡ 11))
 
 -- none of these bytes is 0xAA
 abbrev pub NoStart : List ℕ → Type 0
 NoStart [] = Unit {0}
 NoStart (b ∷ bs) = (b ≡ 0xAA → ⊥) × NoStart bs
+
+-- no fifteen bytes that start at an 0xAA of the noise, be they the noise's or those behind it, are a right frame
+abbrev pub NoFrameIn : List ℕ → List ℕ → Type 0
+NoFrameIn [] behind = Unit {0}
+NoFrameIn (b ∷ noise) behind = (b ≡ 0xAA → rightlyWrapped (take 15 (b ∷ noise ++ behind)) ≡ false) × NoFrameIn noise behind
 
 -- effects on the memories one after the other, each with its own data
 abbrev pub flashAfterAll : List (Memory × List ℕ) → List ℕ → List ℕ

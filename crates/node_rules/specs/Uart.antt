@@ -4,11 +4,13 @@ use mathlib.Core.Bool.{Bool, true, false, _&&_, not, cond}
 use mathlib.Core.List.{List, [], _∷_, _++_}
 use lib.Dec.{eqb, leb, ltb}
 use lib.ListN.{length, replicate}
-use Rattle.base.specs.Parts.{listed}
+use Rattle.base.specs.Parts.{listed, part}
 use Rattle.memory_address.specs.Places.{full}
 use Rattle.frame_rules.specs.Wrapping.{wrappedOf, innerOf, rightlyWrapped}
 use Rattle.node_rules.specs.declared.Pin.{Pin}
 use Rattle.node_rules.specs.declared.Pin.the-variants.{CanOnly, CanAndUart}
+use Rattle.node_rules.specs.declared.Noise.{Noise}
+use Rattle.node_rules.specs.declared.Noise.the-variants.{KeepFromNext, DropAll}
 use Rattle.node_rules.specs.declared.Choices.{Choices}
 use Rattle.node_rules.specs.declared.Node.{Node}
 use Rattle.node_rules.specs.declared.Effect.{Effect}
@@ -54,9 +56,20 @@ heldOutcomes n full xs =
 abbrev pub uartOutcomes : Node → Bool → ℕ → List Outcome
 uartOutcomes n full b = heldOutcomes n full (heldWith (heldOf n) b)
 
--- 11: what stays held of fifteen bytes with a wrong sum or stop, as was chosen: "A wrong sum or stop drops all fifteen."
+-- the bytes from the first 0xAA among them on, or nothing
+abbrev pub fromStart : List ℕ → List ℕ
+fromStart [] = []
+fromStart (b ∷ bs) = cond (eqb b 0xAA) (b ∷ bs) (fromStart bs)
+
+-- what each way leaves held of fifteen bytes. The default: "drop the first held byte, keep from the next 0xAA among the fourteen others, or
+-- nothing". "The old way stays": "Dropping all fifteen bytes after a bad sum".
+abbrev pub keptBy : Noise → List ℕ → List ℕ
+keptBy KeepFromNext fifteen = fromStart (part fifteen 1 14)
+keptBy DropAll fifteen = []
+
+-- 11: what stays held of fifteen bytes with a wrong sum or stop, by the way that was chosen
 unfoldable pub heldAfterBad : Choices → List ℕ → List ℕ
-heldAfterBad c fifteen = []
+heldAfterBad c fifteen = keptBy (c .noise) fifteen
 
 -- "Afterwards", as far as it is about held bytes: 1, 2 and 3 "all unchanged"; 10 "byte held or skipped"; 11; and else "A complete UART
 -- frame empties the held bytes whatever follows."

@@ -27,9 +27,17 @@ pub enum Mode {
     Waiting,
 }
 
+// What becomes of fifteen bytes with a wrong sum or stop: the first is dropped, and from the next 0xAA on they stay held; or all are dropped,
+// the old way, which has to be asked for by name.
+pub enum Noise {
+    KeepFromNext,
+    DropAll,
+}
+
 // What is chosen at a restart, and kept until the next one that gives 0.
 pub struct Choices {
     pub pin: Pin,
+    pub noise: Noise,
 }
 
 // The plate: ID0 to ID3 with DEVID1 and DEVID2, and the own numbers, which a restart copies from EEPROM.

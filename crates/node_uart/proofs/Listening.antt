@@ -3,7 +3,7 @@
 -- Assumes nothing.
 use mathlib.Core.Path.{_≡_, _∙_, refl, sym, ap}
 use mathlib.Core.Bool.{Bool, true, false, cond, false≢true}
-use mathlib.Core.List.{List, [], _∷_, _++_, append-assoc}
+use mathlib.Core.List.{List, [], _∷_, _++_}
 use mathlib.Core.Logic.{_⊎_, ⊎-elim, inl, inr}
 use Prim.Native.Nat.{ℕ, suc, _+_, _-_, _≤_, _<_}
 use native.Mathlib.Nat.{suc-ne-zero}
@@ -26,7 +26,7 @@ use Rattle.node_rules.specs.Record.{padded, receiving, holding, heldOf, tidied,
 use Rattle.node_rules.specs.Outcomes.{isDeaf}
 use Rattle.node_rules.specs.Step.{after, done, canStep}
 use Rattle.node_rules.specs.Uart.{UartStep, uartAfter, heldWith, incomplete, isClosed, heldAfterBad, onUart, viaUart, uartStep, silentOnUart, silent}
-use Rattle.node_rules.proofs.Tidying.{held-holdable, holdable-few, still-held, tidied-mode}
+use Rattle.node_rules.proofs.Tidying.{held-holdable, holdable-few, room-behind, still-held, tidied-mode}
 use Rattle.node_rules.proofs.Agreement.{with-byte, byte-tidied}
 use Rattle.node_record.proofs.Tidied.{withReceiver}
 
@@ -73,16 +73,6 @@ judged t ys flash eeprom =
     cond (incomplete ys) (silent 10 (holding t ys) flash eeprom)
     (cond (rightlyWrapped ys) (viaUart (canStep (holding t []) (innerOf ys) flash eeprom))
     (silent 11 (holding t (heldAfterBad (t .choices) ys)) flash eeprom))
-
--- one byte more behind those that are held
-pub room-behind : (xs : List ℕ) (b : ℕ) → length xs ≤ 14 → set (padded xs) (length xs) b ≡ padded (xs ++ (b ∷ []))
-room-behind xs b l =
-    let k : 15 - length xs ≡ suc (14 - length xs) = omega arith in
-    let j : 15 - length (xs ++ (b ∷ [])) ≡ 14 - length xs = omega (arith, length-append xs (b ∷ [])) in
-    ap (λ (m : ℕ). set (xs ++ replicate m 0) (length xs) b) k
-    ∙ set-at xs 0 (replicate (14 - length xs) 0) b (length xs) refl
-    ∙ sym (append-assoc xs (b ∷ []) (replicate (14 - length xs) 0))
-    ∙ ap (λ (m : ℕ). (xs ++ (b ∷ [])) ++ replicate m 0) (sym j)
 
 pub held-behind : (xs : List ℕ) (b : ℕ) → (length xs ≡ 0 → ⊥) ⊎ (b ≡ 0xAA) → heldWith xs b ≡ xs ++ (b ∷ [])
 held-behind [] b (inl m) = absurd (m refl)

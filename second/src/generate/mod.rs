@@ -1,6 +1,7 @@
 //! Makes session streams, steered by the program's own node so that much happens on both ports.
 
 mod asks;
+mod noise;
 mod pieces;
 mod ports;
 mod records;
@@ -9,10 +10,21 @@ mod restarts;
 
 use crate::event::{Event, LONGEST, LONGEST_CAN, LONGEST_RING, MOST_CALLS, PIECES};
 use crate::memory::{EEPROM_BASE, EEPROM_CELLS, FLASH_CELLS};
-use crate::node::Mode;
+use crate::node::{Mode, Way};
 use crate::random::Random;
 use crate::session::{Answer, Session};
 use std::io::{self, Write};
+
+/// What the sessions of a stream are like.
+#[derive(Clone, Copy, PartialEq, Eq)]
+pub enum Kind {
+    /// UART byte by byte; nothing is said of the way, and the old one is meant.
+    Bytes,
+    /// UART in pieces; nothing is said of the way, and the old one is meant.
+    Pieces,
+    /// UART byte by byte and in pieces by turns, in both ways.
+    Ways,
+}
 
 struct Writer<'a, W: Write> {
     out: &'a mut W,
@@ -28,32 +40,47 @@ struct Writer<'a, W: Write> {
     /// Whether UART bytes come in pieces, and those that wait for that.
     in_pieces: bool,
     ring: Vec<u8>,
+    /// Whether restarts and records say something of the way, and answers tell it.
+    both_ways: bool,
     result: io::Result<()>,
 }
 
-/// Writes a stream of sessions, with UART bytes one by one or in pieces.
+/// Writes a stream of sessions of a kind. The last way that is meant in it is the default.
 pub fn generate(
-    in_pieces: bool,
+    kind: Kind,
     seed: u64,
     sessions: u32,
     events: u64,
     full: u16,
     out: &mut impl Write,
 ) -> io::Result<()> {
+    let mut session = Session::new();
+    let salt = match kind {
+        Kind::Bytes => 0,
+        Kind::Pieces => 0x91EC_E500,
+        Kind::Ways => 0x3A75_0011,
+    };
+    if kind != Kind::Ways {
+        session.meant = Way::Old;
+    }
     let mut writer = Writer {
         out,
-        random: Random::new(if in_pieces { seed ^ 0x91EC_E500 } else { seed }),
-        session: Session::new(),
+        random: Random::new(seed ^ salt),
+        session,
         limit: events,
         block: 0x001000,
         row: 0xF00020,
         damage: 0,
-        in_pieces,
+        in_pieces: kind == Kind::Pieces,
         ring: Vec::new(),
+        both_ways: kind == Kind::Ways,
         result: Ok(()),
     };
     for index in 0..sessions {
         writer.play(index, full);
+    }
+    if kind == Kind::Ways {
+        writer.emit(Event::Meant(1));
     }
     writer.result
 }
@@ -72,7 +99,7 @@ impl<W: Write> Writer<'_, W> {
 
     /// Writes an event and does it, all its calls; events behind the session's limit are left out.
     fn write(&mut self, event: Event) -> Vec<Answer> {
-        let outside = matches!(event, Event::Begin { .. } | Event::End);
+        let outside = matches!(event, Event::Begin { .. } | Event::End | Event::Meant(_));
         if !outside && self.session.events >= self.limit {
             return vec![];
         }
@@ -111,9 +138,18 @@ impl<W: Write> Writer<'_, W> {
         // Every second pair of sessions begins with mixed memories.
         let (step, more) =
             if index % 4 < 2 { (0, 0) } else { (1 | self.random.any(), self.random.any()) };
-        self.emit(Event::Begin { flash, eeprom, fixed, full, step, more });
+        let tells_way = self.both_ways as u8;
+        if self.both_ways {
+            self.in_pieces = index % 2 == 1;
+        }
+        self.emit(Event::Begin { flash, eeprom, fixed, full, step, more, tells_way });
+        if self.both_ways {
+            self.fresh_scene();
+        }
         while self.session.events < self.limit && self.result.is_ok() {
-            if self.in_pieces {
+            if self.both_ways {
+                self.ways_scene();
+            } else if self.in_pieces {
                 self.piece_scene();
             } else {
                 self.scene();

@@ -117,10 +117,12 @@ impl<W: Write> Writer<'_, W> {
 
     /// A node record, in one or more ways unlike those the node makes.
     pub fn hostile_record(&mut self) -> [u8; HANDED] {
-        if self.random.chance(10) {
-            return std::array::from_fn(|_| self.random.byte());
-        }
         let mut record = [0; HANDED];
+        if self.random.chance(10) {
+            record[..WAY_AT].fill_with(|| self.random.byte());
+            record[WAY_AT] = self.some_way();
+            return record;
+        }
         record[..NODE].copy_from_slice(&write(&self.session.node.tidied()));
         record[0] = self.random.pick(&[0, 1, 1, 1, 1, 1, 2, 255]);
         if self.random.chance(30) {
@@ -155,6 +157,7 @@ impl<W: Write> Writer<'_, W> {
         if self.random.chance(20) {
             record[FIFTEENTH_AT] = 1 | self.random.any();
         }
+        record[WAY_AT] = self.some_way();
         record
     }
 

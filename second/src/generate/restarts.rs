@@ -18,7 +18,8 @@ impl<W: Write> Writer<'_, W> {
     pub fn emit_restart(&mut self) {
         let pin = self.random.pick(&[0, 1, 1, 1, 1, 1, 1, 2, 255]);
         let self_test = self.random.pick(&[0, 0, 0, 0, 0, 0, 0, 0, 0, 0, 0, 0, 1, 255]);
-        self.emit(Event::Restart { pin, self_test });
+        let way = self.some_way();
+        self.emit(Event::Restart { pin, self_test, way });
     }
 
     /// Changes one cell.
@@ -114,7 +115,8 @@ impl<W: Write> Writer<'_, W> {
         let stored = if self.random.chance(50) { sum } else { sum ^ other };
         self.set_stored_sum(stored);
         self.set(EEPROM_BASE, 0x00);
-        self.emit(Event::Restart { pin: 1, self_test: 0 });
+        let way = self.some_way();
+        self.emit(Event::Restart { pin: 1, self_test: 0, way });
         let frame = self.frame_of(0x106);
         let port = if self.random.chance(40) { Port::Uart } else { Port::Can };
         self.send(port, frame);
