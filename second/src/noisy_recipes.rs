@@ -13,12 +13,17 @@ use std::io::{self, Write};
 /// How much noise makes a right frame with the numbers of the first frame as its sum and stop.
 const NOISE_OF_A_FRAME: usize = 10;
 
-/// So many bytes of noise that begin with 0xAA, with others among them or not.
-fn noise(random: &mut Random, count: usize) -> [u8; HELD] {
-    let more = random.pick(&[0, 10, 40, 100]);
+/// So many bytes of noise that begin with 0xAA, and as many percent of the others are 0xAA.
+fn noise(random: &mut Random, count: usize, more: usize) -> [u8; HELD] {
     let mut held = [0; HELD];
     for byte in &mut held[..count] {
-        *byte = if random.chance(more) { START } else { random.byte() };
+        let other = random.byte();
+        let start = random.chance(more);
+        *byte = match other {
+            _ if start => START,
+            START => 0x2A,
+            other => other,
+        };
     }
     held[0] = START;
     held
@@ -33,7 +38,8 @@ fn make_frame(held: &mut [u8; HELD], frame: &[u8]) {
 }
 
 /// A legal recipe of a moderate length with noise in front. By its index it comes byte by byte or
-/// in pieces, says something of the way or nothing, and its noise has a right frame in it.
+/// in pieces, says something of the way or nothing, and has noise of one byte, of fourteen without
+/// another 0xAA, with a right frame in it, or of any length.
 fn noisy(random: &mut Random, index: usize) -> Trial {
     let (pair, in_pieces) = (index / 2, index % 2 == 1);
     let with_frame = pair % 7 == 3;
@@ -53,7 +59,8 @@ fn noisy(random: &mut Random, index: usize) -> Trial {
         1 => HELD,
         _ => 1 + random.below(HELD),
     };
-    let mut held = noise(random, held_count);
+    let more = if pair % 6 == 1 { 0 } else { random.pick(&[0, 10, 40, 100]) };
+    let mut held = noise(random, held_count, more);
     if with_frame {
         make_frame(&mut held, &output);
     }

@@ -94,7 +94,7 @@ const WANTED_NOISY: [&str; 8] = [
     "noise in front, new way left unsaid, the first frame arrives",
     "noise in front, new way, a right frame in it",
     "noise in front, new way, of one byte",
-    "noise in front, new way, of fourteen bytes",
+    "noise in front, new way, of fourteen bytes, the first frame's 0xAA is the next one",
     "noise in front, new way, several 0xAA in it",
     "noise in front, old way said, the first frame lost",
     "noise in front, old way left unsaid, the first frame lost",
@@ -115,12 +115,14 @@ fn noise_rows(trial: &Trial, output: &[u8]) -> Vec<String> {
     let way = if trial.way() == Way::New { "new way" } else { "old way" };
     let said = if trial.way_byte == 0 { "left unsaid" } else { "said" };
     let arrived = if arrives { "the first frame arrives" } else { "the first frame lost" };
+    let several = held[1..].contains(&START);
+    let next = format!("{way}, of fourteen bytes, the first frame's 0xAA is the next one");
     let found = [
         (format!("{way} {said}, {arrived}"), true),
         (format!("{way}, a right frame in it"), frame_in_held(held, output)),
         (format!("{way}, of one byte"), count == 1),
-        (format!("{way}, of fourteen bytes"), count == HELD),
-        (format!("{way}, several 0xAA in it"), held[1..].contains(&START)),
+        (next, count == HELD && !several),
+        (format!("{way}, several 0xAA in it"), several),
     ];
     let port = if trial.piece > 0 { "pieces" } else { "UART" };
     let found = found.iter().filter(|(_, holds)| *holds);

@@ -180,7 +180,8 @@ impl Ways {
             }
             _ => {}
         }
-        if self.said == Said::Fresh && event.tells_node() && session.tells_way {
+        let told = answer.is_some() && event.tells_node() && session.tells_way;
+        if self.said == Said::Fresh && told {
             rows.push(format!("a fresh node, while the {} is meant", name(session.meant)));
         }
         rows

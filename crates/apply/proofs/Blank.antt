@@ -22,7 +22,7 @@ pub blank-programming :
       number = 0;
       node =
           record {
-            choices = record { pin = CanOnly };
+            choices = record { pin = CanOnly; noise = KeepFromNext };
             plate = record { fixed = replicate 6 0; own = record { 0 = 0xFF }; group = record { 0 = 0xFF } };
             receiver = record { held = replicate 15 0; count = 0 };
             mode = Programming Nothing;

@@ -3,7 +3,7 @@
 use mathlib.Core.Path.{_≡_, _∙_, refl, sym, ap, subst}
 use mathlib.Core.Bool.{Bool, true, false, cond}
 use mathlib.Core.List.{List, [], _∷_, _++_, append-assoc, append-nil}
-use mathlib.Core.Logic.{inl, inr}
+use mathlib.Core.Logic.{_⊎_, inl, inr}
 use Prim.Native.Nat.{ℕ, suc, _+_, _-_, _≤_, _<_}
 use native.Mathlib.Nat.{suc-ne-zero}
 use native.Mathlib.Omega.{arith}
@@ -35,6 +35,26 @@ fifteen-give w l = go (rightlyWrapped w) refl
     go : (r : Bool) → rightlyWrapped w ≡ r → unwrapNumber w 12 ≡ numberOf w
     go true e = simp (eq-eqb (length w) 15 l, le-ltb (length w) 15 (omega (arith, l)), e)
     go false e = simp (eq-eqb (length w) 15 l, le-ltb (length w) 15 (omega (arith, l)), e)
+
+-- what stays held of fifteen bytes that unwrap to this number: of a right frame nothing
+abbrev Stays : Choices → List ℕ → ℕ → List ℕ → Type 0
+Stays c w number left = ((number ≡ 0) × (left ≡ [])) ⊎ ((number ≡ 0 → ⊥) × (left ≡ heldAfterBad c w))
+
+stays-left : (c : Choices) (w : List ℕ) (number : ℕ) (left : List ℕ) → length w ≡ 15 → number ≡ unwrapNumber w 12 → Stays c w number left
+    → left ≡ leftOf c w
+stays-left c w number left l u s = go (rightlyWrapped w) refl s
+  where
+    whole : incomplete w ≡ false
+    whole = le-ltb (length w) 15 (omega (arith, l))
+
+    gives : number ≡ cond (rightlyWrapped w) 0 11
+    gives = u ∙ fifteen-give w l ∙ cond-false (incomplete w) 10 _ whole
+
+    go : (r : Bool) → rightlyWrapped w ≡ r → Stays c w number left → left ≡ leftOf c w
+    go true e (inl x) = x .1 ∙ sym (simp (whole, e))
+    go true e (inr x) = absurd (x .0 (gives ∙ cond-true (rightlyWrapped w) 0 11 e))
+    go false e (inl x) = let z : _≡_ {A = ℕ} 0 11 = sym (x .0) ∙ gives ∙ cond-false (rightlyWrapped w) 0 11 e in absurd (suc-ne-zero 10 (sym z))
+    go false e (inr x) = x .1 ∙ sym (simp (whole, e))
 
 -- what is told of a gathering that is known
 told-as : (c : Choices) (g h : Gathered) (was frame : List ℕ) (taken number : ℕ) (r : Receiver) → g ≡ h
@@ -173,7 +193,7 @@ module _ (q : Receiver) (bs : List ℕ) (from : ℕ) where
             refl,
             sym (cond-true (incomplete ys) 10 _ t),
             refl,
-            kept-counted r ys count (q .count) (h .5) long ∙ ap receiving (sym (cond-true (incomplete ys) ys (heldAfterBad c ys) t)),
+            kept-counted r ys count (q .count) (h .5) long ∙ ap receiving (sym (cond-true (incomplete ys) ys _ t)),
           )
 
       -- fifteen bytes
@@ -189,18 +209,18 @@ module _ (q : Receiver) (bs : List ℕ) (from : ℕ) where
         pub whole-length : length (r .held) ≡ 15
         whole-length = ap length whole ∙ fifteen
 
-        pub completes : (number : ℕ) (frame : List ℕ) (kept : Receiver) → length was ≡ 12
+        -- what they give, and what then stays held
+        pub completes : (number : ℕ) (frame left : List ℕ) (kept : Receiver) → length was ≡ 12
             → number ≡ unwrapNumber (r .held) (length was) → frame ≡ outputAfter number (innerOf (r .held)) was
-            → kept ≡ receiving (heldAfterBad c (r .held)) → Told c (gathered xs bs) was i number kept frame
-        completes number frame kept t u f k =
-            let e : incomplete ys ≡ false = le-ltb (length ys) 15 (omega (arith, fifteen)) in
+            → Stays c (r .held) number left → kept ≡ receiving left → Told c (gathered xs bs) was i number kept frame
+        completes number frame left kept t u f s k =
+            let is = u ∙ ap (unwrapNumber (r .held)) t in
             told-as c (gathered xs bs) (record { taken = i; held = ys }) was frame i number kept
             (gathered-here (inl (omega (arith, long, fifteen, h .3), enough))) (
               refl,
-              u ∙ ap (unwrapNumber (r .held)) t ∙ ap (λ (w : List ℕ). unwrapNumber w 12) whole ∙ fifteen-give ys fifteen,
+              is ∙ ap (λ (w : List ℕ). unwrapNumber w 12) whole ∙ fifteen-give ys fifteen,
               f ∙ ap (λ (w : List ℕ). outputAfter number (innerOf w) was) whole,
-              k ∙ ap (λ (w : List ℕ). receiving (heldAfterBad c w)) whole
-                  ∙ ap receiving (sym (cond-false (incomplete ys) ys (heldAfterBad c ys) e)),
+              k ∙ ap receiving (stays-left c (r .held) number left whole-length is s) ∙ ap (λ (w : List ℕ). receiving (leftOf c w)) whole,
             )
 
 -- ---- straight from the piece

@@ -11,7 +11,7 @@ use node_rules::Choices;
 use node_rules::Receiver;
 
 // How many bytes of a piece are taken, and what they give: 10, 11, or 0 for a right frame, whose twelve bytes are then the frame (which is
-// 0 else). After 10 and 11 the receiver has what stays held; after 0 the caller empties it.
+// 0 else). The receiver has what stays held, after 0 nothing.
 pub struct Gathering {
     pub taken: usize,
     pub number: u8,
@@ -93,6 +93,14 @@ fn hold(c: Choices, receiver: Receiver, from: usize, piece: &[u8], frame: &mut [
     }
     let whole = r.held;
     let number = frame_uart::unwrap(&whole, frame);
+    if number == 0 {
+        let none = node_record::none_held();
+        return Filled {
+            taken: i,
+            number,
+            receiver: none,
+        };
+    }
     let kept = node_port::held_after_bad(c, whole);
     Filled {
         taken: i,

@@ -148,7 +148,7 @@ module _ (n : Node) (bs flash eeprom : List ℕ) where
         go false i true w = absurd (d (t .1 ∙ rw (i, w) refl))
         go false i false w =
             completes (silent number (withReceiver (tidied n) r) flash eeprom) i
-            (cond-false (rightlyWrapped ys) _ _ w ∙ rest (heldAfterBad (n .choices) ys) 11 (rw i refl) (rw (i, w) refl))
+            (cond-false (rightlyWrapped ys) _ _ w ∙ rest (heldAfterBad (n .choices) ys) 11 (rw (i, w) refl) (rw (i, w) refl))
 
     -- a complete frame
     module _ (z : number ≡ 0) where

@@ -30,12 +30,10 @@ fn prepare(h: Header, flash: &mut [u8], eeprom: &mut [u8]) {
     slices::put(eeprom, 0x27, h.group);
 }
 
-// The node that the frames are handed to: a fresh one with fixed bytes 0, restarted with a passing self-test, in whose record then stands
-// what the header says.
+// The node that the frames are handed to: restarted, in whose record then stands what the header says.
 fn started(h: Header, flash: &[u8], eeprom: &[u8]) -> Handed {
     let begin = h.begin;
-    let pin = start::pin(begin.pin);
-    let r = node::restart(node::fresh([0; 6]), pin, true, flash, eeprom);
+    let r = start::restarted(begin, flash, eeprom);
     let node = start::begun(begin, r.node);
     Handed { node, answers: 0 }
 }

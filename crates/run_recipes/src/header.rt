@@ -31,7 +31,8 @@ fn number(s: &[u8], i: usize) -> usize {
     first * 16_777_216 + second * 65_536 + third * 256 + fourth
 }
 
-pub fn read(s: &[u8]) -> Header {
+// The header in this record; where it says nothing of the way, the old one may be meant.
+pub fn read(s: &[u8], old: bool) -> Header {
     Header {
         port: byte_at(s, 1),
         flash: byte_at(s, 2),
@@ -42,7 +43,7 @@ pub fn read(s: &[u8]) -> Header {
         group: byte_at(s, 5),
         length: number(s, 6),
         room: number(s, 10),
-        begin: start::read(s),
+        begin: start::read(s, old),
         piece: byte_at(s, 38) as usize * 256 + byte_at(s, 39) as usize,
     }
 }

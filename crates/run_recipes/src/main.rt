@@ -8,7 +8,16 @@ mod pieces;
 mod slices;
 mod start;
 
+use base::byte_at;
 use header::Header;
+
+// Where the stream stands: how many recipes came, whether the old way after noise is meant where nothing is said of it, and whether nothing
+// is left.
+struct Place {
+    at: u64,
+    old: bool,
+    done: bool,
+}
 
 // Reads the bytes of a recipe, with what fills them up to whole records.
 fn read_recipe(length: usize, space: &mut [u8]) {
@@ -35,33 +44,55 @@ fn handle(
     line::print(at, l);
 }
 
-// Reads a header, and handles its recipe. Answers whether there was one.
+// One recipe more.
+fn counted(mut p: Place) -> Place {
+    p.at = std::num::wrapping_add_u64(p.at, 1);
+    p
+}
+
+// The old way is meant, or not.
+fn meaning(mut p: Place, old: bool) -> Place {
+    p.old = old;
+    p
+}
+
+// Nothing is left.
+fn ended(mut p: Place) -> Place {
+    p.done = true;
+    p
+}
+
+// Reads a header, and handles its recipe; or a record that says which way is meant.
 fn turn(
-    at: u64,
+    p: Place,
     space: &mut [u8],
     output: &mut [u8],
     serial: &mut [u8],
     flash: &mut [u8],
     eeprom: &mut [u8],
-) -> bool {
+) -> Place {
     let mut record = [0u8; 64];
     let n = io::read_full(0, &mut record);
     if n < 64 {
-        return false;
+        return ended(p);
     }
+    if byte_at(&record, 0) == 0x21 {
+        return meaning(p, 1 < byte_at(&record, 1));
+    }
+    let next = counted(p);
     handle(
-        at,
-        header::read(&record),
+        next.at,
+        header::read(&record, p.old),
         space,
         output,
         serial,
         flash,
         eeprom,
     );
-    true
+    next
 }
 
-// The whole stream. A loop has to end, so recipes are counted, up to a number that no stream uses up.
+// The whole stream. A loop has to end, so turns are counted, up to a number that no stream uses up.
 fn stream(
     space: &mut [u8],
     output: &mut [u8],
@@ -69,12 +100,18 @@ fn stream(
     flash: &mut [u8],
     eeprom: &mut [u8],
 ) {
-    let mut at: u32 = 0;
-    while at < 0xFFFFFFFE {
-        at += 1;
-        if !turn(at as u64, space, output, serial, flash, eeprom) {
+    let mut p = Place {
+        at: 0,
+        old: false,
+        done: false,
+    };
+    let mut turns: u32 = 0;
+    while turns < 0xFFFFFFFF {
+        if p.done {
             return;
         }
+        p = turn(p, space, output, serial, flash, eeprom);
+        turns += 1;
     }
 }
 

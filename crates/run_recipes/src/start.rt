@@ -3,22 +3,26 @@ use base::byte_at;
 use memory_address::Address;
 use memory_address::EepromPlace;
 use memory_address::FlashAddress;
+use node_rules::Choices;
 use node_rules::Mode;
 use node_rules::Node;
+use node_rules::Noise;
 use node_rules::Pin;
 use node_rules::Receiver;
+use node_rules::Restarted;
 use node_rules::Staged;
 
-// What a header says of it: the pin's byte, what is staged, and the held bytes with their count.
+// What a header says of it: the pin's byte, the way's byte (0: nothing is said of it), what is staged, and the held bytes with their count.
 pub struct Begin {
     pub pin: u8,
+    pub way: u8,
     pub staged: Staged,
     pub count: usize,
     pub held: [u8; 15],
 }
 
 // 0 says CAN only, anything else CAN and UART.
-pub fn pin(b: u8) -> Pin {
+fn pin(b: u8) -> Pin {
     if b == 0 {
         return Pin::CanOnly;
     }
@@ -73,13 +77,42 @@ fn held(s: &[u8]) -> [u8; 15] {
     ]
 }
 
-pub fn read(s: &[u8]) -> Begin {
+// The way's byte: where nothing is said, the old way's, if that is meant.
+fn way(b: u8, old: bool) -> u8 {
+    if b == 0 && old {
+        return 2;
+    }
+    b
+}
+
+// 1 says the new way after noise, more the old one.
+fn noise(b: u8) -> Noise {
+    if b < 2 {
+        return Noise::KeepFromNext;
+    }
+    Noise::DropAll
+}
+
+pub fn read(s: &[u8], old: bool) -> Begin {
     Begin {
         pin: byte_at(s, 16),
+        way: way(byte_at(s, 40), old),
         staged: staged(byte_at(s, 17), byte_at(s, 18), number(s)),
         count: byte_at(s, 23) as usize,
         held: held(s),
     }
+}
+
+// A fresh node with fixed bytes 0, restarted with a passing self-test: plainly, where nothing is said of the way.
+pub fn restarted(b: Begin, flash: &[u8], eeprom: &[u8]) -> Restarted {
+    let pin = pin(b.pin);
+    let fresh = node::fresh([0; 6]);
+    if b.way == 0 {
+        return node::restart(fresh, pin, true, flash, eeprom);
+    }
+    let noise = noise(b.way);
+    let choices = Choices { pin, noise };
+    node::restart_with(fresh, choices, true, flash, eeprom)
 }
 
 // The restarted record with these held bytes, in programming mode with this staged. Nothing is tidied.

@@ -13,18 +13,30 @@ use base::byte_at;
 use memory_address::Address;
 use memory_address::Ruled;
 use node_rules::Answer;
+use node_rules::Choices;
 use node_rules::Restarted;
 use node_rules::UartAnswer;
 
-// Restart, by pin and self-test.
+// Restart, by pin, self-test and way.
 fn restart(s: Session, rec: &[u8], flash: &[u8], eeprom: &[u8]) -> Session {
-    let pin = handed::pin(byte_at(rec, 1));
-    let passed = byte_at(rec, 2) == 0;
-    let node = s.node;
     let f = slices::part(flash, 0, s.flash);
     let e = slices::part(eeprom, 0, s.eeprom);
-    let r = node::restart(node, pin, passed, f, e);
+    let r = restart_by(s, rec, f, e);
     restarted(r, s)
+}
+
+// A plain restart where nothing is said of the way and the default is meant; else the way is chosen.
+fn restart_by(s: Session, rec: &[u8], flash: &[u8], eeprom: &[u8]) -> Restarted {
+    let pin = handed::pin(byte_at(rec, 1));
+    let passed = byte_at(rec, 2) == 0;
+    let way = byte_at(rec, 3);
+    let node = s.node;
+    if way == 0 && !s.old {
+        return node::restart(node, pin, passed, flash, eeprom);
+    }
+    let noise = handed::way(way, s.old);
+    let choices = Choices { pin, noise };
+    node::restart_with(node, choices, passed, flash, eeprom)
 }
 
 fn restarted(r: Restarted, s: Session) -> Session {
@@ -118,7 +130,8 @@ fn poke(s: Session, rec: &[u8], flash: &mut [u8], eeprom: &mut [u8]) -> Session 
 fn begin(s: Session, rec: &[u8], flash: &mut [u8], eeprom: &mut [u8]) -> Session {
     slices::fill(flash, byte_at(rec, 1), byte_at(rec, 11), byte_at(rec, 12));
     slices::fill(eeprom, byte_at(rec, 2), byte_at(rec, 11), byte_at(rec, 12));
-    session::begun(s, handed::six(rec, 3), handed::short(rec, 9))
+    let tells = byte_at(rec, 13) != 0;
+    session::begun(s, handed::six(rec, 3), handed::short(rec, 9), tells)
 }
 
 fn end(s: Session, flash: &[u8], eeprom: &[u8]) -> Session {
@@ -204,7 +217,7 @@ fn on_node(s: Session, kind: u8, rec: &[u8], flash: &mut [u8], eeprom: &mut [u8]
         0x02 => can(s, rec, flash, eeprom),
         0x03 => uart(s, rec, flash, eeprom),
         0x04 => show(s, rec, flash, eeprom),
-        0x05 => session::with_node(s, handed::node(rec)),
+        0x05 => session::with_node(s, handed::node(rec, s.old)),
         _ => s,
     }
 }
@@ -234,6 +247,9 @@ pub fn event(s: Session, rec: &[u8], flash: &mut [u8], eeprom: &mut [u8]) -> Ses
     }
     if kind == 0x11 {
         return pieces::record(s, rec, flash, eeprom);
+    }
+    if kind == 0x12 {
+        return session::meaning(s, 1 < byte_at(rec, 1));
     }
     converted(s, kind, rec)
 }

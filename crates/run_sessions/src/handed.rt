@@ -8,6 +8,7 @@ use memory_address::Module;
 use node_rules::Choices;
 use node_rules::Mode;
 use node_rules::Node;
+use node_rules::Noise;
 use node_rules::Pin;
 use node_rules::Plate;
 use node_rules::Receiver;
@@ -67,6 +68,20 @@ pub fn pin(b: u8) -> Pin {
     Pin::CanAndUart
 }
 
+// The way after noise: 1 the new one, more the old one; 0 says nothing, and then the old way counts where it is meant, and else the new one.
+pub fn way(b: u8, old: bool) -> Noise {
+    if b == 0 {
+        if old {
+            return Noise::DropAll;
+        }
+        return Noise::KeepFromNext;
+    }
+    if b == 1 {
+        return Noise::KeepFromNext;
+    }
+    Noise::DropAll
+}
+
 // The address as its kind says: 0 FLASH, else EEPROM.
 fn address_of(kind: u8, a: u32) -> Address {
     if kind == 0 {
@@ -120,11 +135,12 @@ fn count(low: u8, high: u32) -> usize {
     high as usize * 256 + low as usize
 }
 
-// The node's record of a hand-in, as it stands: nothing is tidied.
-pub fn node(s: &[u8]) -> Node {
+// The node's record of a hand-in, as it stands: nothing is tidied. Where it says nothing of the way, the old one may be meant.
+pub fn node(s: &[u8], old: bool) -> Node {
     Node {
         choices: Choices {
             pin: pin(byte_at(s, 1)),
+            noise: way(byte_at(s, 37), old),
         },
         plate: Plate {
             fixed: six(s, 2),

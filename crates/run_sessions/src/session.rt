@@ -2,7 +2,8 @@
 use node_rules::Node;
 
 // A session: its number, the events that had an answer, their digest, the lines that are still printed in full, how many cells of each
-// memory are lent, the node, how often restart, CAN frame, UART byte and UART piece gave each number, and whether the stream has ended.
+// memory are lent, the node, how often restart, CAN frame, UART byte and UART piece gave each number, whether answers tell the way after
+// noise, whether the old way is meant where nothing is said of it (in later sessions too), and whether the stream has ended.
 pub struct Session {
     pub number: u64,
     pub events: u64,
@@ -12,6 +13,8 @@ pub struct Session {
     pub eeprom: usize,
     pub node: Node,
     pub counts: [u64; COUNTS],
+    pub tells: bool,
+    pub old: bool,
     pub done: bool,
 }
 
@@ -38,12 +41,14 @@ pub fn start() -> Session {
         eeprom: 1024,
         node: node::fresh([0; 6]),
         counts: [0; COUNTS],
+        tells: false,
+        old: false,
         done: false,
     }
 }
 
-// The next session, with these fixed bytes and so many lines in full.
-pub fn begun(s: Session, fixed: [u8; 6], full: u32) -> Session {
+// The next session, with these fixed bytes and so many lines in full, whose answers tell the way or not.
+pub fn begun(s: Session, fixed: [u8; 6], full: u32, tells: bool) -> Session {
     Session {
         number: std::num::wrapping_add_u64(s.number, 1),
         events: 0,
@@ -53,6 +58,8 @@ pub fn begun(s: Session, fixed: [u8; 6], full: u32) -> Session {
         eeprom: 1024,
         node: node::fresh(fixed),
         counts: [0; COUNTS],
+        tells,
+        old: s.old,
         done: false,
     }
 }
@@ -60,6 +67,12 @@ pub fn begun(s: Session, fixed: [u8; 6], full: u32) -> Session {
 // The session with the stream at its end.
 pub fn ended(mut s: Session) -> Session {
     s.done = true;
+    s
+}
+
+// The session in which the old way is meant, or not, where nothing is said of it.
+pub fn meaning(mut s: Session, old: bool) -> Session {
+    s.old = old;
     s
 }
 

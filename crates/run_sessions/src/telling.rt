@@ -3,6 +3,7 @@ use crate::session;
 use crate::session::Session;
 use crate::slices;
 use node_rules::Node;
+use node_rules::Noise;
 
 // The lower-case hex digit of a number below 16.
 fn digit(n: u8) -> u8 {
@@ -75,11 +76,26 @@ fn write_with(
     finish(s, slices::part(line, 0, d))
 }
 
-// The session with this node after an event whose answer ends with it as NODE, and the fifteenth held byte.
+// The way after noise: 1 the new one, 2 the old one.
+fn way_byte(way: Noise) -> u8 {
+    match way {
+        Noise::KeepFromNext => 1,
+        Noise::DropAll => 2,
+    }
+}
+
+// The session with this node after an event whose answer ends with it as NODE, the fifteenth held byte and, in a session that tells it, the
+// way.
 pub fn write_node(s: Session, head: &[u8], replies: &[u8], n: Node) -> Session {
     let receiver = n.receiver;
     let held = receiver.held;
+    let choices = n.choices;
+    let way = choices.noise;
+    let last = [held[14], way_byte(way)];
     let record = run_record::bytes_of(n);
     let next = session::with_node(s, n);
-    write_four(next, head, replies, &record, &[held[14]])
+    if s.tells {
+        return write_four(next, head, replies, &record, &last);
+    }
+    write_four(next, head, replies, &record, &last[..1])
 }

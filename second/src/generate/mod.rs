@@ -45,7 +45,7 @@ struct Writer<'a, W: Write> {
     result: io::Result<()>,
 }
 
-/// Writes a stream of sessions of a kind. The last way that is meant in it is the default.
+/// Writes a stream of sessions of a kind. Where it says which way is meant, the default is last.
 pub fn generate(
     kind: Kind,
     seed: u64,

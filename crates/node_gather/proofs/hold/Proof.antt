@@ -1,8 +1,11 @@
 -- `node_gather::hold` meets its contract: each turn holds one byte more.
 -- Assumes nothing.
-use mathlib.Core.Path.{sym}
+use mathlib.Core.Path.{refl, sym}
+use mathlib.Core.List.{[]}
+use mathlib.Core.Logic.{inl, inr}
 use Prim.Native.Nat.{_-_}
 use native.Mathlib.Omega.{arith}
+use Rattle.node_rules.specs.Uart.{heldAfterBad}
 use Rattle.node_gather.proofs.Holding.{Holds, holds-none, holds-one, ends, whole-length, completes}
 use borrow.Author.Needs.{needs}
 use Rattle.node_gather.proofs.hold.Statement.{statement}
@@ -59,21 +62,38 @@ slice-aggregate-unwrap c =
 unwrap-requires : tie.Need-unwrap-requires Inv-loop μ-loop
 unwrap-requires c κs = search needs
 
-held-after-bad-requires : tie.Need-held-after-bad-requires Inv-loop μ-loop
-held-after-bad-requires c κs = search needs
+none-held-requires : tie.Need-none-held-requires Inv-loop μ-loop
+none-held-requires c κs = search needs
 
 same-length : tie.Need-same-length Inv-loop μ-loop
 same-length c = search needs
 
 returns-2 : tie.Need-returns-2 Inv-loop μ-loop
 returns-2 c =
-    let a = c .before .before .before .before .before .before .before .before .before .before .before .args in
-    let l = c .before .before .before .before .before .before .before .before .loop in
-    let u = c .before .before .before .unwrap in
+    let a = c .before .before .before .before .before .before .before .before .before .before .before .before .args in
+    let l = c .before .before .before .before .before .before .before .before .before .loop in
+    let u = c .before .before .before .before .unwrap in
     completes (a .receiver) (a .piece .now) (a .from) (l .r) (l .count) (l .i) (l .inv) (a .c) (a .frame .now)
-    (c .before .before .before .before .before .before .before .loop-test .left) (u .result) _ (c .held-after-bad .result)
-    (c .before .before .before .before .before .before .before .before .before .before .before .pre .2) (u .ensures .0) (u .ensures .1)
-    (c .held-after-bad .ensures)
+    (c .before .before .before .before .before .before .before .before .loop-test .left) (u .result) _ [] (c .none-held .result)
+    (c .before .before .before .before .before .before .before .before .before .before .before .before .pre .2) (u .ensures .0) (u .ensures .1)
+    (inl (c .before .if2 .taken, refl)) (c .none-held .ensures)
+
+held-after-bad-requires : tie.Need-held-after-bad-requires Inv-loop μ-loop
+held-after-bad-requires c κs = search needs
+
+same-length-2 : tie.Need-same-length-2 Inv-loop μ-loop
+same-length-2 c = search needs
+
+returns-3 : tie.Need-returns-3 Inv-loop μ-loop
+returns-3 c =
+    let a = c .before .before .before .before .before .before .before .before .before .before .before .before .args in
+    let l = c .before .before .before .before .before .before .before .before .before .loop in
+    let u = c .before .before .before .before .unwrap in
+    completes (a .receiver) (a .piece .now) (a .from) (l .r) (l .count) (l .i) (l .inv) (a .c) (a .frame .now)
+    (c .before .before .before .before .before .before .before .before .loop-test .left) (u .result) _ (heldAfterBad (a .c) (l .r .held))
+    (c .held-after-bad .result)
+    (c .before .before .before .before .before .before .before .before .before .before .before .before .pre .2) (u .ensures .0) (u .ensures .1)
+    (inr (c .before .if2 .left, refl)) (c .held-after-bad .ensures)
 
 pub hold-spec : {M : Type 1} → statement M
 hold-spec =
@@ -91,6 +111,9 @@ hold-spec =
     loop-again
     slice-aggregate-unwrap
     unwrap-requires
-    held-after-bad-requires
+    none-held-requires
     same-length
-    returns-2)
+    returns-2
+    held-after-bad-requires
+    same-length-2
+    returns-3)

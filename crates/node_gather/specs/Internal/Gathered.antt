@@ -49,9 +49,9 @@ atOnce count w = cond (eqb count 0) (unwrapNumber w 12) 4
 abbrev pub numberOf : List ℕ → ℕ
 numberOf w = cond (incomplete w) 10 (cond (rightlyWrapped w) 0 11)
 
--- and which of them stay held after 10 or 11
+-- and which of them stay held: none of a right frame
 abbrev pub leftOf : Choices → List ℕ → List ℕ
-leftOf c w = cond (incomplete w) w (heldAfterBad c w)
+leftOf c w = cond (incomplete w) w (cond (rightlyWrapped w) [] (heldAfterBad c w))
 
 -- what is told of bytes that were gathered one by one: how many were taken, what they give, the frame after 0, and what holds the rest
 abbrev pub Told : Choices → Gathered → List ℕ → ℕ → ℕ → Receiver → List ℕ → Type 0
