@@ -5,6 +5,7 @@ use mathlib.Core.Path.{_≡_, refl}
 use mathlib.Core.Bool.{true}
 use lib.ListN.{replicate}
 use Rattle.node_rules.specs.declared.Pin.the-variants.{CanOnly}
+use Rattle.node_rules.specs.declared.Noise.the-variants.{KeepFromNext}
 use Rattle.node_rules.specs.declared.Staged.the-variants.{Nothing}
 use Rattle.node_rules.specs.declared.Mode.the-variants.{Programming}
 use Rattle.node_rules.specs.declared.Restarted.{Restarted}

@@ -67,12 +67,12 @@ uart-piece-eleven {n} {p} {flash} {eeprom} {flash′} {eeprom′} {r} c e j t =
 
 -- to an open, running node with nothing held, in the new way: unless fifteen bytes that start at an 0xAA of the noise are a right frame, the
 -- answers are 10s and 11s, and then, at the frame's last byte, what the same frame's call on CAN leaves, the replies wrapped
-pub no-frame-lost : {n : Node} {noise f flash eeprom flash′ eeprom′ : List ℕ} {r : Answer} {steps : List UartStep} {end : State}
-    → CanFrame n f flash eeprom r flash′ eeprom′ → UartBytes (noise ++ wrappedOf f) (state n flash eeprom) steps end
+pub no-frame-lost : {n : Node} {f flash eeprom flash′ eeprom′ : List ℕ} {r : Answer} {steps : List UartStep} {end : State}
+    (noise : List ℕ) → CanFrame n f flash eeprom r flash′ eeprom′ → UartBytes (noise ++ wrappedOf f) (state n flash eeprom) steps end
     → length flash ≡ 65536 → length eeprom ≡ 1024 → n .choices .pin ≡ CanAndUart → isDeaf (n .mode) ≡ false
     → n .choices .noise ≡ KeepFromNext → heldOf n ≡ [] → length f ≡ 12 → NoFrameIn noise (wrappedOf f)
     → (before : List UartStep) × (steps ≡ before ++ (viaUart (after r flash′ eeprom′) ∷ [])) × TensAndElevens flash eeprom before
-no-frame-lost {n} {noise} {f} {flash} {eeprom} c bytes fl el pin hears new none l h =
+no-frame-lost {n} {f} {flash} {eeprom} noise c bytes fl el pin hears new none l h =
     let a = nothing-lost n flash eeprom fl el pin hears new none noise f l h in (
       a .0,
       bytes-said bytes .0 ∙ a .1 ∙ ap (λ (x : Step). a .0 ++ (viaUart x ∷ [])) (sym (can-frame-said c)),

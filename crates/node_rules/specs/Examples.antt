@@ -181,7 +181,7 @@ refusals =
     noiseRow KeepFromNext (0xAA ∷ 0xAA ∷ oneToTwelve) 0x0D (0xAA ∷ oneToTwelve ++ (0x0D ∷ [])) ∷
     noiseRow KeepFromNext (0xAA ∷ oneToTwelve ++ (0x0D ∷ [])) 0xAA (0xAA ∷ []) ∷
     noiseRow KeepFromNext (0xAA ∷ eightOf 1 2 0xAA 4 5 6 7 8 ++ (0xAA ∷ 10 ∷ 11 ∷ 12 ∷ 13 ∷ [])) 14
-        (0xAA ∷ 4 ∷ 5 ∷ 6 ∷ 7 ∷ 8 ∷ 0xAA ∷ 10 ∷ 11 ∷ 12 ∷ 13 ∷ 14 ∷ []) ∷
+    (0xAA ∷ 4 ∷ 5 ∷ 6 ∷ 7 ∷ 8 ∷ 0xAA ∷ 10 ∷ 11 ∷ 12 ∷ 13 ∷ 14 ∷ []) ∷
     noiseRow KeepFromNext (0xAA ∷ oneToTwelve ++ (0x0D ∷ [])) 0x0E [] ∷
     noiseRow DropAll (0xAA ∷ 0xAA ∷ oneToTwelve) 0x0D [] ∷
     noiseRow DropAll (0xAA ∷ oneToTwelve ++ (0x0D ∷ [])) 0xAA [] ∷

@@ -72,10 +72,13 @@ fn can_frame(s: Session, frame: &[u8], flash: &mut [u8], eeprom: &mut [u8]) -> S
 }
 
 fn can_answered(a: Answer, s: Session) -> Session {
+    can_told(a, session::counted(s, CAN_FRAMES + a.number as usize))
+}
+
+fn can_told(a: Answer, s: Session) -> Session {
     let replies = a.replies;
     let node = a.node;
-    let next = session::counted(s, CAN_FRAMES + a.number as usize);
-    telling::write_node(next, &[0x02, a.number, a.count], &replies, node)
+    telling::write_node(s, &[0x02, a.number, a.count], &replies, node)
 }
 
 // A UART byte.
@@ -88,10 +91,13 @@ fn uart(s: Session, rec: &[u8], flash: &mut [u8], eeprom: &mut [u8]) -> Session 
 }
 
 fn uart_answered(a: UartAnswer, s: Session) -> Session {
+    uart_told(a, session::counted(s, UART_BYTES + a.number as usize))
+}
+
+fn uart_told(a: UartAnswer, s: Session) -> Session {
     let replies = a.replies;
     let node = a.node;
-    let next = session::counted(s, UART_BYTES + a.number as usize);
-    telling::write_node(next, &[0x03, a.number, a.count], &replies, node)
+    telling::write_node(s, &[0x03, a.number, a.count], &replies, node)
 }
 
 // A row of the lent memories.

@@ -10,11 +10,18 @@ use node_rules::UartAnswer;
 
 // The session after a call with this answer, and so many bytes taken.
 fn answered(a: UartAnswer, taken: usize, s: Session) -> Session {
+    told(
+        a,
+        taken,
+        session::counted(s, UART_PIECES + a.number as usize),
+    )
+}
+
+fn told(a: UartAnswer, taken: usize, s: Session) -> Session {
     let replies = a.replies;
     let node = a.node;
-    let next = session::counted(s, UART_PIECES + a.number as usize);
     let low = (taken % 256) as u8;
-    telling::write_node(next, &[0x11, a.number, low, a.count], &replies, node)
+    telling::write_node(s, &[0x11, a.number, low, a.count], &replies, node)
 }
 
 // One call: so many of the bytes that the ring still holds behind those that are taken.

@@ -69,11 +69,16 @@ fn write_with(
     last: &[u8],
     line: &mut [u8],
 ) -> Session {
+    let end = in_line(head, second, third, last, line);
+    finish(s, slices::part(line, 0, end))
+}
+
+// Four pieces one behind the other; answers where they end.
+fn in_line(head: &[u8], second: &[u8], third: &[u8], last: &[u8], line: &mut [u8]) -> usize {
     let a = slices::append(line, 0, head);
     let b = slices::append(line, a, second);
     let c = slices::append(line, b, third);
-    let d = slices::append(line, c, last);
-    finish(s, slices::part(line, 0, d))
+    slices::append(line, c, last)
 }
 
 // The way after noise: 1 the new one, 2 the old one.

@@ -1,4 +1,4 @@
--- The recipes are counted, so the turns that are left fall; every slice keeps its length.
+-- The turns are counted, so those that are left fall; every slice keeps its length.
 -- Assumes nothing.
 use Prim.Native.Nat.{_-_}
 use mathlib.Core.Path.{_≡_}
@@ -9,24 +9,15 @@ use Rattle.run_recipes.proofs.stream.Statement.{statement}
 use Rattle.run_recipes.proofs.stream.Tie as tie
 
 abbrev Inv-loop : tie.InvT-loop
-Inv-loop space₀ output₀ serial₀ flash₀ eeprom₀ at₀ space output serial flash eeprom at = (length space ≡ length space₀) ×
+Inv-loop space₀ output₀ serial₀ flash₀ eeprom₀ p₀ turns₀ space output serial flash eeprom p turns = (length space ≡ length space₀) ×
     (length output ≡ length output₀) × (length serial ≡ length serial₀) × (length flash ≡ length flash₀) ×
     (length eeprom ≡ length eeprom₀)
 
 abbrev μ-loop : tie.MeasureT-loop
-μ-loop space₀ output₀ serial₀ flash₀ eeprom₀ at₀ space output serial flash eeprom at = 0xFFFFFFFE - at
+μ-loop space₀ output₀ serial₀ flash₀ eeprom₀ p₀ turns₀ space output serial flash eeprom p turns = 0xFFFFFFFF - turns
 
 loop-holds : tie.Need-loop-holds Inv-loop μ-loop
 loop-holds c = search needs
-
-add-at : tie.Need-add-at Inv-loop μ-loop
-add-at c = omega arith
-
-cast-turn : tie.Need-cast-turn Inv-loop μ-loop
-cast-turn c = omega arith
-
-turn-requires : tie.Need-turn-requires Inv-loop μ-loop
-turn-requires c κs = tt
 
 same-length : tie.Need-same-length Inv-loop μ-loop
 same-length c = search needs
@@ -45,6 +36,12 @@ same-length-5 c = search needs
 
 returns : tie.Need-returns Inv-loop μ-loop
 returns c = search needs
+
+turn-requires : tie.Need-turn-requires Inv-loop μ-loop
+turn-requires c κs = tt
+
+add-turns : tie.Need-add-turns Inv-loop μ-loop
+add-turns c = omega arith
 
 loop-less : tie.Need-loop-less Inv-loop μ-loop
 loop-less c = omega arith
@@ -77,15 +74,14 @@ stream-spec =
     Inv-loop
     μ-loop
     loop-holds
-    add-at
-    cast-turn
-    turn-requires
     same-length
     same-length-2
     same-length-3
     same-length-4
     same-length-5
     returns
+    turn-requires
+    add-turns
     loop-less
     loop-again
     same-length-6
