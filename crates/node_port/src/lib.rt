@@ -39,16 +39,14 @@ fn held_from(fifteen: [u8; 15], from: usize) -> Receiver
     requires { ⌜ (1 ≤ from) × (from ≤ 14) ⌝ }
     ensures { λ r. ⌜ r ≡ receiving (drop from fifteen) ⌝ }
 {
+    let count = 15 - from;
     let mut held = [0u8; 15];
-    let mut i = from;
-    while i < 15 {
-        held[i - from] = fifteen[i];
+    let mut i = 0;
+    while i < count {
+        held[i] = fifteen[from + i];
         i += 1;
     }
-    Receiver {
-        held,
-        count: 15 - from,
-    }
+    Receiver { held, count }
 }
 
 // The first byte is dropped, and what stays held starts at the next 0xAA among the fourteen others; nothing, where there is none.

@@ -1,7 +1,7 @@
 -- 11, in each way. It comes only with a fifteenth byte, and what then stays held is what the way that was chosen says: the first byte of the
 -- fifteen is dropped and what stays starts at the next 0xAA, or nothing stays.
 -- Assumes nothing.
-use mathlib.Core.Path.{_≡_, _∙_, refl, sym, ap}
+use mathlib.Core.Path.{_≡_, _∙_, refl, sym, ap, subst}
 use mathlib.Core.Bool.{Bool, true, false, cond, false≢true}
 use mathlib.Core.List.{List, [], _∷_, _++_}
 use mathlib.Core.Logic.{_⊎_, inl, inr}
@@ -46,7 +46,8 @@ kept-says : (way : Noise) (first : ℕ) (others : List ℕ) → length others �
 kept-says DropAll first others l = refl
 kept-says KeepFromNext first others l =
     let r = start-says others in
-    rw (take-all 14 others (omega arith)) (first, r .0, ap (λ (xs : List ℕ). first ∷ xs) (r .1), r .2, r .3)
+    let kept : keptBy KeepFromNext (first ∷ others) ≡ fromStart others = ap fromStart (take-all 14 others (omega arith)) in
+    subst (StaysOf KeepFromNext (first ∷ others)) (sym kept) (first, r .0, ap (λ (xs : List ℕ). first ∷ xs) (r .1), r .2, r .3)
 
 -- of any fifteen bytes
 pub bad-says : (c : Choices) (fifteen : List ℕ) → length fifteen ≡ 15 → StaysOf (c .noise) fifteen (heldAfterBad c fifteen)

@@ -8,7 +8,7 @@ use mathlib.Core.Logic.{_⊎_, inl, inr}
 use Prim.Native.Nat.{ℕ, _≤_}
 use native.Mathlib.Omega.{arith}
 use lib.Dec.{eqb, leb}
-use lib.ListN.{length, getD, drop, length-take}
+use lib.ListN.{length, getD, take, length-take}
 use borrow.Author.Tests.{eqb-true, ltb-true, not-true}
 use Rattle.base.specs.Parts.{part}
 use Rattle.base.proofs.Choice.{by-cond}
@@ -140,9 +140,12 @@ start-holdable [] l = tt
 start-holdable (b ∷ bs) l =
     by-cond Holdable (eqb b 0xAA) (b ∷ bs) (fromStart bs) (λ e. (eqb-true b 0xAA e, omega arith)) (λ _. start-holdable bs (omega arith))
 
+fourteen-taken : (xs : List ℕ) → length (take 14 xs) ≤ 14
+fourteen-taken xs = omega (arith, length-take 14 xs)
+
 kept-holdable : (way : Noise) (fifteen : List ℕ) → Holdable (keptBy way fifteen)
-kept-holdable KeepFromNext fifteen = start-holdable (part fifteen 1 14) (omega (arith, length-take 14 (drop 1 fifteen)))
-kept-holdable DropAll fifteen = tt
+kept-holdable KeepFromNext fifteen = search (start-holdable, fourteen-taken)
+kept-holdable DropAll fifteen = search (start-holdable, fourteen-taken)
 
 -- THE LAW of what stays held after 11, in each way: it may be held
 pub bad-holdable : (c : Choices) (fifteen : List ℕ) → Holdable (heldAfterBad c fifteen)

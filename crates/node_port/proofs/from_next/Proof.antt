@@ -25,14 +25,14 @@ array-read-if1 : tie.Need-array-read-if1 Inv-loop μ-loop
 array-read-if1 c = search needs
 
 held-from-requires : tie.Need-held-from-requires Inv-loop μ-loop
-held-from-requires c κs = (c .before .before .loop .inv .0, omega arith)
+held-from-requires c κs = (omega arith, omega arith)
 
 returns : tie.Need-returns Inv-loop μ-loop
 returns c =
     let l = c .before .before .before .loop in
     let w = c .before .before .before .before .args .t1 in
     c .held-from .ensures
-    ∙ ap receiving (sym (finds w (l .inv .2) (l .i) (c .before .before .loop-test .taken) (c .before .if1 .taken)) ∙ l .inv .3)
+    ∙ ap receiving (sym (finds w (l .inv .2) (l .i) (omega (arith, c .before .before .loop-test .taken)) (c .before .if1 .taken)) ∙ l .inv .3)
 
 add-i : tie.Need-add-i Inv-loop μ-loop
 add-i c = omega arith
@@ -46,7 +46,7 @@ loop-again c =
       omega arith,
       omega arith,
       l .inv .2,
-      sym (passes (c .before .before .before .args .t1) (l .inv .2) (l .i) (c .before .loop-test .taken) (c .if1 .left)) ∙ l .inv .3,
+      sym (passes (c .before .before .before .args .t1) (l .inv .2) (l .i) (omega (arith, c .before .loop-test .taken)) (c .if1 .left)) ∙ l .inv .3,
     )
 
 none-held-requires : tie.Need-none-held-requires Inv-loop μ-loop
