@@ -28,7 +28,7 @@ use Rattle.node_piece_rules.proofs.Answering.{piece-few, piece-by, open
 
 -- ---- the outcomes other than 10
 
-tens-append : (xs ys : List UartStep) → butTens (xs ++ ys) ≡ butTens xs ++ butTens ys
+pub tens-append : (xs ys : List UartStep) → butTens (xs ++ ys) ≡ butTens xs ++ butTens ys
 tens-append [] ys = refl
 tens-append (x ∷ xs) ys = go (eqb (x .answer .number) 10) (tens-append xs ys)
   where

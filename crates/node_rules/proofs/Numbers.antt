@@ -4,16 +4,17 @@
 use mathlib.Core.Path.{_≡_, ap}
 use mathlib.Core.List.{List}
 use Prim.Native.Nat.{ℕ}
+use native.Mathlib.Omega.{arith}
 use Rattle.memory_address.specs.Places.{full}
 use Rattle.frame_rules.specs.Wrapping.{innerOf}
 use Rattle.node_rules.specs.declared.Node.{Node}
 use Rattle.node_rules.specs.declared.Effect.{Effect}
 use Rattle.node_rules.specs.Record.{heldOf, tidied}
-use Rattle.node_rules.specs.Outcomes.{firstThat, canOutcomes, askedOf, decided}
+use Rattle.node_rules.specs.Outcomes.{firstThat, frameOutcomes, canOutcomes, askedOf, decided}
 use Rattle.node_rules.specs.Step.{after, done, canStep, silentAnswer}
 use Rattle.node_rules.specs.Uart.{uartAfter, heldWith, uartOutcomes, heldDone, uartStep, silentOnUart}
 use Rattle.node_rules.specs.Others.{leftOnCan, leftOnUart}
-use Rattle.node_rules.proofs.Deciding.{unless-number, unless-refused, asked-of-zero}
+use Rattle.node_rules.proofs.Deciding.{unless-number, unless-refused, unless-by, among-cases, frame-among, asked-of-zero}
 
 module _ (n : Node) (f flash eeprom : List ℕ) where
   -- the outcome table for this frame
@@ -31,6 +32,21 @@ module _ (n : Node) (f flash eeprom : List ℕ) where
   can-refused m =
       ap (λ (e : Effect). done e (tidied n) f flash eeprom)
       (unless-refused (canOutcomes (tidied n) (full flash eeprom) f) (askedOf (tidied n) f) m)
+
+  -- a frame never gives 10
+  pub can-never-ten : canStep n f flash eeprom .answer .number ≡ 10 → ⊥
+  unfolding canStep done decided
+  can-never-ten =
+      let Q : ℕ → Type 0 = λ number. number ≡ 10 → ⊥ in
+      unless-by (λ (e : Effect). Q (e .number)) (canOutcomes (tidied n) (full flash eeprom) f) (askedOf (tidied n) f) (
+        λ _ e. let z : _≡_ {A = ℕ} 1 10 = e in omega arith,
+        λ _. (
+          λ _ e. let z : _≡_ {A = ℕ} 3 10 = e in omega arith,
+          λ _. among-cases Q (frameOutcomes (tidied n) f) (askedOf (tidied n) f)
+              (frame-among Q (tidied n) f (λ e. omega arith) (λ e. omega arith) (λ e. omega arith) (λ e. omega arith) (λ e. omega arith)
+              (λ e. omega arith)) (asked-of-zero (tidied n) f) (λ e. omega arith),
+        ),
+      )
 
 module _ (n : Node) (b : ℕ) (flash eeprom : List ℕ) where
   -- what is held with the byte, and the outcome table for it

@@ -58,9 +58,12 @@ EachSilent P flash eeprom (s ∷ ss) =
     P (s .answer .number) × (s .answer .count ≡ 0) × (s .answer .replies ≡ replicate 30 0) × (s .flash ≡ flash) × (s .eeprom ≡ eeprom)
     × EachSilent P flash eeprom ss
 
--- each step is 10; each is 10 or 11
+-- each step is 10; each is 11; each is 10 or 11
 abbrev pub AllTen : List ℕ → List ℕ → List UartStep → Type 0
 AllTen = EachSilent (λ (number : ℕ). number ≡ 10)
+
+abbrev pub AllEleven : List ℕ → List ℕ → List UartStep → Type 0
+AllEleven = EachSilent (λ (number : ℕ). number ≡ 11)
 
 abbrev pub TensAndElevens : List ℕ → List ℕ → List UartStep → Type 0
 TensAndElevens = EachSilent (λ (number : ℕ). (number ≡ 10) ⊎ (number ≡ 11))
