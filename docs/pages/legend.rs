@@ -22,7 +22,7 @@ const ENTRIES: &[(&str, &str)] = &[
          around its parts",
     ),
     ("≡", "the two sides are equal; of records and lists: as a whole"),
-    ("×", "and"),
+    ("×", "and; `(x : A) × B`: there is an x of A with B"),
     ("⊎", "or"),
     ("⊥", "what never holds; `A → ⊥` says that A does not hold"),
     ("Σ", "there is one such that"),

@@ -40,7 +40,7 @@ pub fresh-says : (six : List ℕ) → (freshNode six .plate .fixed ≡ six)
 unfolding freshNode
 fresh-says six = (refl, refl, refl, refl, refl, refl, refl, refl)
 
--- "A plain restart": this pin, and the new way after noise
+-- a plain restart: this pin, and the new way after noise
 pub plain-says : (p : Pin) → (plain p .pin ≡ p) × (plain p .noise ≡ KeepFromNext)
 plain-says p = (refl, refl)
 
