@@ -46,9 +46,14 @@ fn command_of(staged: u8, kind: u8, address: u32) -> Command {
     }
 }
 
-/// The record of a hand-in, untidied. A count of the peer is one byte: a higher one becomes 255,
-/// which counts as none, too.
-fn node_of(b: &[u8]) -> Node {
+/// Whether a byte says the old way after 11; where it says nothing, whether that is meant.
+fn old_of(byte: u8, meant: bool) -> bool {
+    byte > 1 || byte == 0 && meant
+}
+
+/// The record of a hand-in, untidied, and whether the old way is meant where nothing is said of it.
+/// A count of the peer is one byte: a higher one becomes 255, which counts as none, too.
+fn node_of(b: &[u8], meant: bool) -> Node {
     let address = number(b, 27);
     let command = command_of(b[25], b[26], address);
     let mut held = [0; 16];
@@ -57,7 +62,7 @@ fn node_of(b: &[u8]) -> Node {
     Node {
         held,
         count: if number(b, 31) == 0 { b[9] } else { 255 },
-        uart: b[0] != 0,
+        choices: choices(b[0] != 0, old_of(b[36], meant)),
         mode: match b[24] {
             0 => Mode::Normal,
             1 => Mode::Started,
@@ -105,10 +110,10 @@ impl Line {
         self.length += bytes.len();
     }
 
-    /// Adds a record: NODE, and the fifteenth held byte.
-    fn add_node(&mut self, node: &Node) {
+    /// Adds a record: NODE and the fifteenth held byte, and the way where answers tell it.
+    fn add_node(&mut self, node: &Node, tells: bool) {
         self.add(&node_bytes(node));
-        self.add(&[node.held[HELD]]);
+        self.add(&[node.held[HELD], way_byte(node)][..1 + tells as usize]);
     }
 
     fn bytes(&self) -> &[u8] {
@@ -125,8 +130,12 @@ struct Session {
     events: u64,
     full: u64,
     digest: u64,
-    /// How often restart, CAN frame and UART byte gave each number.
-    counts: [u64; 26],
+    /// How often restart, CAN frame, UART byte and UART piece gave each number.
+    counts: [u64; 38],
+    /// Whether answers tell the way after 11.
+    tells: bool,
+    /// Whether the old way is meant where nothing is said of it, of the whole stream.
+    meant: bool,
 }
 
 impl Session {
@@ -140,22 +149,25 @@ impl Session {
             events: 0,
             full: 0,
             digest: 0,
-            counts: [0; 26],
+            counts: [0; 38],
+            tells: false,
+            meant: false,
         }
     }
 
-    /// Does the event of a record; gives its answer where it has one.
-    fn event(&mut self, b: &[u8]) -> Option<Line> {
+    /// Does the event of a record.
+    fn event(&mut self, b: &[u8], out: &mut impl Write) -> io::Result<()> {
         let flash = &mut self.flash[..self.lent[0]];
         let eeprom = &mut self.eeprom[..self.lent[1]];
         let mut space = [OUTPUT_FILL; 20];
         let mut line;
         match b[0] {
             0x01 => {
-                let number = self.node.restart(b[1] != 0, b[2] == 0, flash, eeprom);
+                let choices = choices(b[1] != 0, old_of(b[3], self.meant));
+                let number = self.node.restart(choices, b[2] == 0, flash, eeprom);
                 self.counts[number as usize] += 1;
                 line = Line::of(&[b[0], number]);
-                line.add_node(&self.node);
+                line.add_node(&self.node, self.tells);
             }
             0x02 => {
                 let mut replies = [OUTPUT_FILL; 24];
@@ -167,7 +179,7 @@ impl Session {
                 self.counts[2 + answer.number as usize] += 1;
                 line = Line::of(&[b[0], answer.number, answer.count]);
                 line.add(&replies);
-                line.add_node(&self.node);
+                line.add_node(&self.node, self.tells);
             }
             0x03 => {
                 let mut replies = [OUTPUT_FILL; 30];
@@ -175,7 +187,7 @@ impl Session {
                 self.counts[14 + answer.number as usize] += 1;
                 line = Line::of(&[b[0], answer.number, answer.count]);
                 line.add(&replies);
-                line.add_node(&self.node);
+                line.add_node(&self.node, self.tells);
             }
             0x04 => {
                 let address = number(b, 1);
@@ -220,20 +232,51 @@ impl Session {
                     None => Line::of(&[b[0], 8, 2]),
                 };
             }
+            0x11 => return self.pieces(b, out),
             _ => {
                 self.arrange(b);
-                return None;
+                return Ok(());
             }
         }
+        self.tell(&line, out)
+    }
+
+    /// UART pieces: each call is handed the first bytes of what the ring still holds.
+    fn pieces(&mut self, b: &[u8], out: &mut impl Write) -> io::Result<()> {
+        let mut ring = &b[19..][..b[1].min(44) as usize];
+        for &length in &b[3..][..b[2].min(16) as usize] {
+            let mut replies = [OUTPUT_FILL; 30];
+            let (taken, answer) = self.node.uart_piece(
+                &ring[..ring.len().min(length as usize)],
+                &mut self.flash[..self.lent[0]],
+                &mut self.eeprom[..self.lent[1]],
+                &mut replies,
+            );
+            ring = &ring[taken..];
+            self.counts[26 + answer.number as usize] += 1;
+            let mut line = Line::of(&[b[0], answer.number, taken as u8, answer.count]);
+            line.add(&replies);
+            line.add_node(&self.node, self.tells);
+            self.tell(&line, out)?;
+        }
+        Ok(())
+    }
+
+    /// Counts an answer, and prints it where it is among those in full.
+    fn tell(&mut self, line: &Line, out: &mut impl Write) -> io::Result<()> {
         self.events += 1;
         self.digest = digest(self.digest, line.bytes());
-        Some(line)
+        if self.events <= self.full {
+            line.bytes().iter().try_for_each(|byte| write!(out, "{byte:02x}"))?;
+            writeln!(out)?;
+        }
+        Ok(())
     }
 
     /// Does an event that has no answer.
     fn arrange(&mut self, b: &[u8]) {
         match b[0] {
-            0x05 => self.node = node_of(&b[1..]),
+            0x05 => self.node = node_of(&b[1..], self.meant),
             0x06 => {
                 let (flash, eeprom) = (number(b, 1) as usize, number(b, 5) as usize);
                 self.lent = [flash.min(SESSION_FLASH), eeprom.min(SESSION_EEPROM)];
@@ -257,8 +300,10 @@ impl Session {
                 self.events = 0;
                 self.full = u16::from_be_bytes([b[9], b[10]]) as u64;
                 self.digest = 0;
-                self.counts = [0; 26];
+                self.counts = [0; 38];
+                self.tells = b[13] != 0;
             }
+            0x12 => self.meant = old_of(b[1], false),
             _ => {}
         }
     }
@@ -268,9 +313,11 @@ impl Session {
         let (flash, eeprom) = (digest(0, &self.flash), digest(0, &self.eeprom));
         write!(out, "session {} events {} digest {}", self.number, self.events, self.digest)?;
         write!(out, " flash {flash} eeprom {eeprom}")?;
-        for (word, from, to) in [("restart", 0, 2), ("can", 2, 14), ("uart", 14, 26)] {
+        let words = [("restart", 0, 2), ("can", 2, 14), ("uart", 14, 26), ("piece", 26, 38)];
+        let pieces = self.counts[26..].iter().any(|&count| count != 0);
+        for (word, from, to) in &words[..3 + pieces as usize] {
             write!(out, " {word}")?;
-            for count in &self.counts[from..to] {
+            for count in &self.counts[*from..*to] {
                 write!(out, " {count}")?;
             }
         }
@@ -284,18 +331,43 @@ fn answer(stream: &[u8], out: &mut impl Write) -> io::Result<()> {
     for record in stream.chunks_exact(RECORD) {
         if record[0] == 0x09 {
             session.close(out)?;
-        } else if let Some(line) = session.event(record) {
-            if session.events <= session.full {
-                line.bytes().iter().try_for_each(|byte| write!(out, "{byte:02x}"))?;
-                writeln!(out)?;
-            }
+        } else {
+            session.event(record, out)?;
         }
     }
     Ok(())
 }
 
-/// Translates a recipe, hands its frames to a node, and prints the line.
-fn apply(h: &[u8], recipe: &[u8], output: &mut [u8], out: &mut impl Write) -> io::Result<()> {
+/// Hands a node bytes in pieces of one length, until none is left or it takes none; gives the
+/// digest of the answers.
+fn by_pieces(node: &mut Node, length: usize, bytes: &[u8], memories: [&mut [u8]; 2]) -> u64 {
+    let [flash, eeprom] = memories;
+    let (mut rest, mut answers) = (bytes, 0);
+    while !rest.is_empty() {
+        let mut replies = [OUTPUT_FILL; 30];
+        let piece = &rest[..length.min(rest.len())];
+        let (taken, answer) = node.uart_piece(piece, flash, eeprom, &mut replies);
+        let [high, low] = (taken as u16).to_be_bytes();
+        answers = digest(answers, &[answer.number, high, low, answer.count]);
+        answers = digest(answers, &replies);
+        if taken == 0 {
+            break;
+        }
+        rest = &rest[taken..];
+    }
+    answers
+}
+
+/// Translates a recipe, hands its frames to a node, and prints the line. The old way may be meant
+/// where the header says nothing of it, and there is space for the bytes of all wrapped frames.
+fn apply(
+    h: &[u8],
+    meant: bool,
+    recipe: &[u8],
+    output: &mut [u8],
+    serial: &mut [u8],
+    out: &mut impl Write,
+) -> io::Result<()> {
     output.fill(OUTPUT_FILL);
     let count = match translate(recipe, output) {
         Ok(count) => count,
@@ -311,13 +383,19 @@ fn apply(h: &[u8], recipe: &[u8], output: &mut [u8], out: &mut impl Write) -> io
     fill(&mut eeprom, h[3], h[14], h[15]);
     (eeprom[BOOTFL], eeprom[MODULE], eeprom[GROUP]) = (0xFF, h[4], h[5]);
     let mut node = Node::fresh([0; 6]);
-    node.restart(h[16] != 0, true, &flash, &eeprom);
+    node.restart(choices(h[16] != 0, old_of(h[40], meant)), true, &flash, &eeprom);
     node.address = number(h, 19);
     node.command = command_of(h[17], h[18], node.address);
     node.count = h[23];
     node.held[..HELD].copy_from_slice(&h[24..38]);
     let mut answers = 0;
-    for frame in output[..12 * count].chunks_exact(12) {
+    let length = u16::from_be_bytes([h[38], h[39]]) as usize;
+    let in_pieces = h[1] != 0 && length != 0;
+    for (at, frame) in output[..12 * count].chunks_exact(12).enumerate() {
+        if in_pieces {
+            wrap(frame, &mut serial[15 * at..][..15]);
+            continue;
+        }
         if h[1] == 0 {
             let mut replies = [OUTPUT_FILL; 24];
             let answer = node.can_frame(frame, &mut flash, &mut eeprom, &mut replies);
@@ -332,6 +410,9 @@ fn apply(h: &[u8], recipe: &[u8], output: &mut [u8], out: &mut impl Write) -> io
             answers = digest(digest(answers, &[answer.number, answer.count]), &replies);
         }
     }
+    if in_pieces {
+        answers = by_pieces(&mut node, length, &serial[..15 * count], [&mut flash, &mut eeprom]);
+    }
     write!(out, "number 0 place {count} frames {} answers {answers}", digest(0, output))?;
     write!(out, " flash {} eeprom {}", digest(0, &flash), digest(0, &eeprom))?;
     writeln!(out, " node {}", digest(0, &node_bytes(&node)))
@@ -340,10 +421,15 @@ fn apply(h: &[u8], recipe: &[u8], output: &mut [u8], out: &mut impl Write) -> io
 /// Applies the recipes of a stream.
 fn apply_recipes(stream: &[u8], out: &mut impl Write) -> io::Result<()> {
     let mut space = vec![0; 441_948];
+    let mut serial = vec![0; 552_435];
     let mut rest = stream;
     let mut recipe = 0;
+    let mut meant = false;
     while let Some((header, behind)) = rest.split_at_checked(RECORD) {
         rest = behind;
+        if header[0] == 0x21 {
+            meant = old_of(header[1], false);
+        }
         if header[0] != 0x20 {
             continue;
         }
@@ -351,7 +437,7 @@ fn apply_recipes(stream: &[u8], out: &mut impl Write) -> io::Result<()> {
         let output = &mut space[..number(header, 10) as usize];
         recipe += 1;
         write!(out, "recipe {recipe} ")?;
-        apply(header, &behind[..length], output, out)?;
+        apply(header, meant, &behind[..length], output, &mut serial, out)?;
         rest = &behind[length.next_multiple_of(RECORD).min(behind.len())..];
     }
     Ok(())

@@ -13,6 +13,10 @@ pub const HELD: usize = 14;
 pub const NODE: usize = 31;
 const START: u8 = 0xAA;
 const STOP: u8 = 0xA5;
+/// The choices of a restart, in one byte of the record: the pin says CAN and UART, and nothing stays
+/// held after 11 (the old way).
+const UART: u8 = 1;
+const OLD: u8 = 2;
 
 /// Places of EEPROM, counted from its beginning.
 pub const BOOTFL: usize = 0x00;
@@ -67,7 +71,7 @@ pub struct Node {
     /// The first `count`, at most 14; 0 behind them.
     pub held: [u8; 16],
     pub count: u8,
-    pub uart: bool,
+    pub choices: u8,
     pub mode: Mode,
     pub command: Command,
     pub own: [u8; 2],
@@ -173,7 +177,7 @@ impl Node {
         Node {
             held: [0; 16],
             count: 0,
-            uart: false,
+            choices: 0,
             mode: Mode::Waiting,
             command: Command::Nothing,
             own: [0; 2],
@@ -200,13 +204,13 @@ impl Node {
 
     /// Restarts the node; gives 0 or 1.
     #[inline(never)]
-    pub fn restart(&mut self, uart: bool, passed: bool, flash: &[u8], eeprom: &[u8]) -> u8 {
+    pub fn restart(&mut self, choices: u8, passed: bool, flash: &[u8], eeprom: &[u8]) -> u8 {
         let (Ok(flash), Ok(eeprom)) = (<&Flash>::try_from(flash), <&Eeprom>::try_from(eeprom))
         else {
             self.tidy();
             return 1;
         };
-        self.uart = uart;
+        self.choices = choices;
         self.count = 0;
         self.held = [0; 16];
         self.own = [eeprom[MODULE], eeprom[GROUP]];
@@ -279,7 +283,7 @@ impl Node {
         else {
             return quiet(1);
         };
-        if !self.uart {
+        if self.choices & UART == 0 {
             return quiet(2);
         }
         if matches!(self.mode, Mode::Error | Mode::Waiting) {
@@ -324,7 +328,7 @@ impl Node {
         else {
             return (0, quiet(1));
         };
-        if !self.uart {
+        if self.choices & UART == 0 {
             return (0, quiet(2));
         }
         if matches!(self.mode, Mode::Error | Mode::Waiting) {
@@ -369,6 +373,9 @@ impl Node {
     ) -> Answer {
         let frame = whole[1..13].try_into().unwrap();
         if whole[14] != STOP || whole[13] != sum(frame) {
+            let mut all = [0; 16];
+            all[..15].copy_from_slice(whole);
+            self.keep(all);
             return quiet(11);
         }
         self.obey(frame, flash, eeprom, OnUart(replies))
@@ -384,14 +391,34 @@ impl Node {
         replies: &mut [u8; 30],
     ) -> Answer {
         let frame = self.held[1..13].try_into().unwrap();
-        let right = byte == STOP && self.held[13] == sum(frame);
+        if byte != STOP || self.held[13] != sum(frame) {
+            self.held[HELD] = byte;
+            self.keep(self.held);
+            return quiet(11);
+        }
         let frame = *frame;
         self.count = 0;
         self.held = [0; 16];
-        if !right {
-            return quiet(11);
-        }
         self.obey(&frame, flash, eeprom, OnUart(replies))
+    }
+
+    /// Holds what stays of fifteen bytes with a wrong sum or stop, behind which is a 0: from the
+    /// next 0xAA behind the first byte on, or nothing.
+    #[inline(always)]
+    fn keep(&mut self, all: [u8; 16]) {
+        const ONES: u128 = u128::MAX / 0xFF;
+        let others = u128::from_le_bytes(all) >> 8;
+        let differs = others ^ ONES * START as u128;
+        // The lowest bit stands in the first byte that doesn't differ.
+        let found = differs.wrapping_sub(ONES) & !differs & ONES << 7;
+        if self.choices & OLD != 0 || found == 0 {
+            self.count = 0;
+            self.held = [0; 16];
+            return;
+        }
+        let dropped = found.trailing_zeros() / 8;
+        self.count = HELD as u8 - dropped as u8;
+        self.held = (others >> (8 * dropped)).to_le_bytes();
     }
 
     /// A reply of this node.
@@ -573,10 +600,21 @@ pub fn piece_by_value(
     (taken, answer, node, replies)
 }
 
+/// The choices of a restart: whether the pin says CAN and UART, and whether the way after 11 is the
+/// old one.
+pub fn choices(uart: bool, old: bool) -> u8 {
+    (uart as u8 * UART) | (old as u8 * OLD)
+}
+
+/// The way after 11 as second/PROTOCOL.md writes it: 1 the new one, 2 the old one.
+pub fn way_byte(node: &Node) -> u8 {
+    1 + (node.choices & OLD != 0) as u8
+}
+
 /// A record as NODE of second/PROTOCOL.md. What is staged is 0 where it means nothing.
 pub fn node_bytes(node: &Node) -> [u8; NODE] {
     let mut bytes = [0; NODE];
-    bytes[0] = node.uart as u8;
+    bytes[0] = node.choices & UART;
     bytes[1..7].copy_from_slice(&node.fixed);
     bytes[7..9].copy_from_slice(&node.own);
     bytes[9] = node.count;

@@ -1,7 +1,8 @@
 #!/usr/bin/env python3
 """The rows of one kind: the stream that makes them, and the table of what callgrind counted.
 
-    rows.py streams WORK            writes the streams that ./bench counts: the rows, restarts, WORK/recipe on either port and in pieces
+    rows.py streams WORK            writes the streams that ./bench counts: the rows, restarts, WORK/recipe on either port and in pieces,
+                                    and noise
     rows.py table WORK COLUMN ..    prints the table of WORK/COLUMN.*.count*, Rattle being the first column
 
 The stream has a few hundred equal events for each row, and a restart behind them: before each restart callgrind writes down what it has
@@ -16,6 +17,8 @@ DATA = bytes(range(0x41, 0x49))
 FLASH, EEPROM = 0x002000, 0xF00100
 STARTED, PROGRAMMING, WAITING = 1, 2, 4
 NOTHING, READ, WRITE, ERASE = range(4)
+# The ways after noise.
+NEW, OLD = 1, 2
 
 # The aims: how many times the peer's instructions a call may take, with the record by value and without one.
 RECORD_BY_VALUE, LEAF = 1.9, 1.2
@@ -42,10 +45,11 @@ def record(*parts):
     return b''.join(bytes([p]) if isinstance(p, int) else p for p in parts).ljust(64, b'\0')
 
 
-def node(mode=PROGRAMMING, staged=NOTHING, address=0, held=b'', pin=1):
+def node(mode=PROGRAMMING, staged=NOTHING, address=0, held=b'', pin=1, way=NEW):
     """A node is handed in."""
     fixed = bytes(range(1, 7))
-    return record(0x05, pin, fixed, OWN, len(held), held.ljust(14, b'\0'), mode, staged, address >= 0xF00000, address.to_bytes(4, 'big'))
+    what = staged, address >= 0xF00000, address.to_bytes(4, 'big')
+    return record(0x05, pin, fixed, OWN, len(held), held.ljust(14, b'\0'), mode, *what, bytes(5), way)
 
 
 def frame(kind, data=DATA, flags=0, numbers=OWN):
@@ -101,7 +105,10 @@ ROWS = [
     ('uart_byte', 'refused 2 (CAN only)', [node(pin=0)] + TIMES * uart(b'\xAA')),
     ('uart_byte', 'first byte 0xAA', each(node(), uart(b'\xAA'))),
     ('uart_byte', 'held byte 8', each(node(held=WRAPPED[:7], **STAGED), uart(WRAPPED[7:8]))),
-    ('uart_byte', '15th, wrong stop (11)', each(node(held=WRAPPED[:14], **STAGED), uart(b'\0'))),
+    ('uart_byte', '15th, wrong stop (11), nothing stays', each(node(held=WRAPPED[:14], **STAGED), uart(b'\0'))),
+    ('uart_byte', '11, from the 2nd on: fourteen stay', each(node(held=b'\xAA' + WRAPPED[:13], **STAGED), uart(b'\0'))),
+    ('uart_byte', '11, from the 15th on: one stays', each(node(held=WRAPPED[:14], **STAGED), uart(b'\xAA'))),
+    ('uart_byte', '11 in the old way', each(node(held=WRAPPED[:14], way=OLD, **STAGED), uart(b'\0'))),
     ('uart_byte', '15th of 0x030', each(node(held=WRAPPED[:14]), uart(b'\xA5'))),
     ('uart_byte', '15th of 0x040, a write', each(node(held=wrapped(PUT)[:14], **STAGED), uart(b'\xA5'))),
     ('uart_byte', '**a byte: of 0x030 and 0x040 in turn**', [node()] + TIMES // 20 * uart(WRAPPED + wrapped(PUT))),
@@ -112,8 +119,9 @@ ROWS = [
     ('rule', 'a row of FLASH', TIMES * [record(0x0E, FLASH.to_bytes(4, 'big'), b'\0\0\0\2')]),
     ('rule', 'a row of EEPROM', TIMES * [record(0x0E, EEPROM.to_bytes(4, 'big'), b'\0\0\0\2')]),
 ]
-# The lengths of pieces, 0 being byte by byte.
+# The lengths of pieces, 0 being byte by byte, and those of noise.
 PIECES = (0, 1, 15, 64, 4096)
+NOISE_PIECES = (0, 64)
 # Rows that are runs of their own: the call, what it is handed, the run.
 RUNS = [
     ('restart', 'with the firmware sum', 'restarts'),
@@ -165,14 +173,32 @@ def streams(work):
         open(f'{work}/{name}', 'wb').write(stream)
 
 
+def noise(length):
+    """Pseudo-random bytes, one in eight of them 0xAA beside those that come out so, and no right frame among them."""
+    made, state = bytearray(), 1
+    while len(made) < length:
+        state = (state * 6364136223846793005 + 1442695040888963407) % 2**64
+        made.append(0xAA if state >> 61 == 0 else state >> 48 & 0xFF)
+        if made[-1] == 0xA5 and made[-15:] == wrapped(made[-14:-2]):
+            made[-1] = 0
+    return bytes(made)
+
+
 def pieces(recipe):
-    """The recipe's bytes on UART behind the length of a piece and the own numbers, and the same with no bytes: names and streams."""
+    """Behind the length of a piece, the own numbers and the way after noise the recipe's bytes on UART, as many bytes of noise in each way,
+    and the same with no bytes: names and streams."""
     own, length = recipe[4:6], int.from_bytes(recipe[6:10], 'big')
     serial = b''.join(wrapped(inner) for inner in frames(recipe[64:64 + length]))
-    for piece in PIECES:
-        head = piece.to_bytes(2, 'big') + own
-        yield f'pieces.{piece}', head + serial
-        yield f'pieces.{piece}.none', head
+    noisy = noise(len(serial))
+    for name, some, way, lengths in (
+        ('pieces', serial, NEW, PIECES),
+        ('noise.new', noisy, NEW, NOISE_PIECES),
+        ('noise.old', noisy, OLD, NOISE_PIECES),
+    ):
+        for piece in lengths:
+            head = piece.to_bytes(2, 'big') + own + bytes([way])
+            yield f'{name}.{piece}', head + some
+            yield f'{name}.{piece}.none', head
 
 
 def inside(path, function):

@@ -1,4 +1,4 @@
-//! The program of main.rattle around the peer: the bytes of a delivery, in pieces or byte by byte.
+//! The program of main.rattle around the peer: bytes on UART, in pieces or byte by byte.
 //!   pieces in-place < stream     the record stays where it is
 //!   pieces by-value < stream     it goes into each call by value, and comes out of it so
 
@@ -110,7 +110,7 @@ fn by_value(
 }
 
 fn main() -> io::Result<()> {
-    let mut head = [0; 4];
+    let mut head = [0; 5];
     let mut space = [0; BYTES];
     let mut flash = [0xFF; FLASH_CELLS];
     let mut eeprom = [0xFF; EEPROM_CELLS];
@@ -119,7 +119,7 @@ fn main() -> io::Result<()> {
     let read = read(&mut input, &mut space)?;
     (eeprom[MODULE], eeprom[GROUP]) = (head[2], head[3]);
     let mut node = Node::fresh([0; 6]);
-    node.restart(true, true, &flash, &eeprom);
+    node.restart(choices(true, head[4] > 1), true, &flash, &eeprom);
     let deliver = match std::env::args().nth(1).as_deref() {
         Some("in-place") => in_place,
         Some("by-value") => by_value,
