@@ -34,7 +34,7 @@ pub fn is_closed(p: Pin) -> bool
     }
 }
 
-// The bytes from `from` on, held.
+// The bytes from `from` on, held: one at least, and not the first.
 fn held_from(fifteen: [u8; 15], from: usize) -> Receiver
     requires { ⌜ (1 ≤ from) × (from ≤ 14) ⌝ }
     ensures { λ r. ⌜ r ≡ receiving (drop from fifteen) ⌝ }

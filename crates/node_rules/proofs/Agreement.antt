@@ -56,7 +56,7 @@ frame-held n xs f =
 module _ (m : Node) (flash eeprom : List ℕ) (isFull : full flash eeprom ≡ true) (pin : m .choices .pin ≡ CanAndUart)
     (hears : isDeaf (m .mode) ≡ false) (tidy : tidyMode (m .mode) ≡ m .mode) where
   -- what the fifteenth byte gives
-  abbrev pub fifteenth : List ℕ → UartStep
+  abbrev fifteenth : List ℕ → UartStep
   fifteenth w =
       cond (rightlyWrapped w) (viaUart (canStep (holding m []) (innerOf w) flash eeprom))
       (silent 11 (holding m (heldAfterBad (m .choices) w)) flash eeprom)

@@ -5,13 +5,12 @@ use mathlib.Core.Path.{_≡_, _∙_, refl, sym, ap, subst}
 use mathlib.Core.Bool.{Bool, true, false, cond, false≢true}
 use mathlib.Core.List.{List, [], _∷_, _++_}
 use mathlib.Core.Logic.{_⊎_, inl, inr}
-use Prim.Native.Nat.{ℕ, suc, _≤_}
+use Prim.Native.Nat.{ℕ}
 use native.Mathlib.Omega.{arith}
 use lib.Dec.{eqb}
 use lib.ListN.{length, getD, length-append}
 use lib.Seq.{take-all}
 use borrow.Author.Tests.{eqb-true, eqb-false, ltb-false}
-use Rattle.base.specs.Parts.{part}
 use Rattle.memory_address.specs.Places.{full}
 use Rattle.node_rules.specs.declared.Noise.{Noise}
 use Rattle.node_rules.specs.declared.Noise.the-variants.{KeepFromNext, DropAll}
@@ -19,12 +18,12 @@ use Rattle.node_rules.specs.declared.Choices.{Choices}
 use Rattle.node_rules.specs.declared.Node.{Node}
 use Rattle.node_rules.specs.Record.{holding, heldOf, tidied, Holdable}
 use Rattle.node_rules.specs.Step.{done}
-use Rattle.node_rules.specs.Uart.{heldWith, incomplete, fromStart, keptBy, heldAfterBad, heldDecided, uartStep, silent}
+use Rattle.node_rules.specs.Uart.{heldWith, incomplete, fromStart, keptBy, heldAfterBad, uartStep, silent}
 use Rattle.node_rules.specs.Others.{leftOnUart}
 use Rattle.node_rules.specs.Runs.{NoStart}
 use Rattle.node_rules.specs.Reading.{StaysOf}
-use Rattle.node_rules.proofs.Tidying.{held-holdable, holdable-few, tidy-held, held-held}
-use Rattle.node_rules.proofs.StaysTidy.{bad-holdable, only-eleven}
+use Rattle.node_rules.proofs.Tidying.{held-holdable, tidy-held}
+use Rattle.node_rules.proofs.StaysTidy.{only-eleven}
 use Rattle.node_rules.proofs.Numbers.{uart-refused, uart-number}
 
 -- ---- what stays, by the way

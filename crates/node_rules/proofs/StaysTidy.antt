@@ -10,7 +10,6 @@ use native.Mathlib.Omega.{arith}
 use lib.Dec.{eqb, leb}
 use lib.ListN.{length, getD, take, length-take}
 use borrow.Author.Tests.{eqb-true, ltb-true, not-true}
-use Rattle.base.specs.Parts.{part}
 use Rattle.base.proofs.Choice.{by-cond}
 use Rattle.memory_address.specs.Places.{full}
 use Rattle.memory_address.specs.Rule.{ruled, isFlash, isEeprom, isLegal, legalFlash, legalEeprom, cellsOf}

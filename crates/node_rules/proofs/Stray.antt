@@ -12,11 +12,10 @@ use lib.Dec.{eqb, leb}
 use lib.ListN.{length, getD, take, drop, length-append}
 use lib.Seq.{take-at, drop-at, take-all, take-append-le}
 use borrow.Author.Tests.{eqb-true, eqb-false, leb-true, leb-false}
-use Rattle.base.specs.Parts.{part}
 use Rattle.base.proofs.Choice.{cond-true, cond-false, by-cond}
 use Rattle.memory_address.specs.Places.{full}
 use Rattle.frame_rules.specs.Wrapping.{wrappedOf, innerOf, rightlyWrapped}
-use Rattle.frame_rules.proofs.Wrapped.{wrapped-length, wrapped-inner, wrapped-right, right-says}
+use Rattle.frame_rules.proofs.Wrapped.{wrapped-length, wrapped-inner, wrapped-right}
 use Rattle.node_rules.specs.declared.Pin.the-variants.{CanAndUart}
 use Rattle.node_rules.specs.declared.Noise.{Noise}
 use Rattle.node_rules.specs.declared.Noise.the-variants.{KeepFromNext}
@@ -29,7 +28,7 @@ use Rattle.node_rules.specs.Runs.{state, behindFrame, behindByte, bytesI
 use Rattle.node_rules.proofs.Tidying.{held-holdable, holdable-few}
 use Rattle.node_rules.proofs.StaysTidy.{bad-holdable}
 use Rattle.node_rules.proofs.Ruling.{sizes-full}
-use Rattle.node_rules.proofs.Agreement.{fifteenth, held-more, held-last, first-byte, still-hears, still-open, still-tidy, bytes-tidied, frame-tidied, nothing}
+use Rattle.node_rules.proofs.Agreement.{held-more, held-last, first-byte, still-hears, still-open, still-tidy, bytes-tidied, frame-tidied, nothing}
 
 -- ---- lists
 
@@ -39,7 +38,7 @@ first-of x y xs ys e = ap (λ (l : List ℕ). getD l 0 0) e
 rest-of : (x y : ℕ) (xs ys : List ℕ) → x ∷ xs ≡ y ∷ ys → xs ≡ ys
 rest-of x y xs ys e = ap (λ (l : List ℕ). drop 1 l) e
 
--- the noise without its first byte has no frame either; and what comes further behind has no say
+-- fifteen bytes that start in the noise end before the frame does: what comes behind it has no say
 few-behind : (noise w zs : List ℕ) → length w ≡ 15 → NoFrameIn noise w → NoFrameIn noise (w ++ zs)
 few-behind [] w zs l h = tt
 few-behind (b ∷ noise) w zs l h = (
@@ -90,7 +89,7 @@ module _ (m : Node) (flash eeprom : List ℕ) (isFull : full flash eeprom ≡ tr
     (h, refl, refl, refl, refl, a .2),
   )
 
-  -- bytes dropped up to the first 0xAA are of the noise, where fewer than fifteen have come
+  -- bytes dropped before the first 0xAA are of the noise, since the frame begins with one
   dropped : (ts bs noise : List ℕ) → ts ++ bs ≡ noise ++ coming → NoFrameIn noise coming → Ahead (fromStart ts) bs
   dropped [] bs noise e h = (noise, e, h)
   dropped (t ∷ ts) bs [] e h =

@@ -2,23 +2,19 @@
 -- met, and its choice of the way is needed.
 -- Assumes nothing.
 use mathlib.Core.Path.{_≡_, _∙_, refl, ap}
-use mathlib.Core.Bool.{true}
 use mathlib.Core.List.{List, [], _∷_, _++_}
 use mathlib.Core.Logic.{inr}
 use Prim.Native.Nat.{ℕ}
 use native.Mathlib.Omega.{arith}
 use lib.ListN.{length}
 use Rattle.frame_rules.specs.Wrapping.{wrappedOf, rightlyWrapped}
-use Rattle.node_rules.specs.declared.Pin.the-variants.{CanAndUart}
-use Rattle.node_rules.specs.declared.Noise.{Noise}
 use Rattle.node_rules.specs.declared.Noise.the-variants.{KeepFromNext, DropAll}
-use Rattle.node_rules.specs.declared.Node.{Node}
 use Rattle.node_rules.specs.Record.{heldIn, tidied}
 use Rattle.node_rules.specs.Step.{canStep}
 use Rattle.node_rules.specs.Uart.{UartStep, heldAfterBad, viaUart, uartStep, silent}
 use Rattle.node_rules.specs.Runs.{State, state, endOf, behindByte, bytesIn, collected, TensAndElevens}
 use Rattle.node_rules.specs.Examples.{noisy, asking, strayS3}
-use Rattle.node_rules.proofs.Running.{steps-append, end-append}
+use Rattle.node_rules.proofs.Running.{steps-append}
 use Rattle.node_rules.proofs.Agreement.{wrong-sum-or-stop, skipped}
 use Rattle.node_rules.proofs.Stray.{nothing-lost}
 

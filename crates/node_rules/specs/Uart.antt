@@ -62,7 +62,7 @@ fromStart [] = []
 fromStart (b ∷ bs) = cond (eqb b 0xAA) (b ∷ bs) (fromStart bs)
 
 -- what each way leaves held of fifteen bytes. The default: "drop the first held byte, keep from the next 0xAA among the fourteen others, or
--- nothing". "The old way stays": "Dropping all fifteen bytes after a bad sum".
+-- nothing". "The old way stays": "A wrong sum or stop drops all fifteen."
 abbrev pub keptBy : Noise → List ℕ → List ℕ
 keptBy KeepFromNext fifteen = fromStart (part fifteen 1 14)
 keptBy DropAll fifteen = []
