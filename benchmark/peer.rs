@@ -373,9 +373,11 @@ impl Node {
     ) -> Answer {
         let frame = whole[1..13].try_into().unwrap();
         if whole[14] != STOP || whole[13] != sum(frame) {
-            let mut all = [0; 16];
-            all[..15].copy_from_slice(whole);
-            self.keep(all);
+            if self.choices & OLD == 0 {
+                let mut all = [0; 16];
+                all[..15].copy_from_slice(whole);
+                self.keep(all);
+            }
             return quiet(11);
         }
         self.obey(frame, flash, eeprom, OnUart(replies))
@@ -391,7 +393,8 @@ impl Node {
         replies: &mut [u8; 30],
     ) -> Answer {
         let frame = self.held[1..13].try_into().unwrap();
-        if byte != STOP || self.held[13] != sum(frame) {
+        let right = byte == STOP && self.held[13] == sum(frame);
+        if !right && self.choices & OLD == 0 {
             self.held[HELD] = byte;
             self.keep(self.held);
             return quiet(11);
@@ -399,11 +402,14 @@ impl Node {
         let frame = *frame;
         self.count = 0;
         self.held = [0; 16];
+        if !right {
+            return quiet(11);
+        }
         self.obey(&frame, flash, eeprom, OnUart(replies))
     }
 
-    /// Holds what stays of fifteen bytes with a wrong sum or stop, behind which is a 0: from the
-    /// next 0xAA behind the first byte on, or nothing.
+    /// Holds what stays in the new way of fifteen bytes with a wrong sum or stop, behind which is a
+    /// 0: from the next 0xAA behind the first byte on, or nothing.
     #[inline(always)]
     fn keep(&mut self, all: [u8; 16]) {
         const ONES: u128 = u128::MAX / 0xFF;
@@ -411,7 +417,7 @@ impl Node {
         let differs = others ^ ONES * START as u128;
         // The lowest bit stands in the first byte that doesn't differ.
         let found = differs.wrapping_sub(ONES) & !differs & ONES << 7;
-        if self.choices & OLD != 0 || found == 0 {
+        if found == 0 {
             self.count = 0;
             self.held = [0; 16];
             return;
