@@ -6,6 +6,7 @@
 
 Instructions are those of a thousand sums less those of the same run with none, by callgrind. Times are the least of many runs in turn.
 """
+import shutil
 import subprocess
 import sys
 import time
@@ -38,8 +39,7 @@ def run(program, *what, under=()):
 
 def counted(program, *what):
     """The instructions of a run."""
-    valgrind = subprocess.run(['which', 'valgrind'], capture_output=True, check=True, text=True).stdout.strip()
-    said = run(program, *what, under=[valgrind, '--tool=callgrind', '--callgrind-out-file=/dev/null'])[1]
+    said = run(program, *what, under=[shutil.which('valgrind'), '--tool=callgrind', '--callgrind-out-file=/dev/null'])[1]
     return int(said.split('Collected : ')[1].split()[0])
 
 
@@ -48,34 +48,33 @@ def a_sum(program, shape, any_cells):
     return (counted(program, shape, any_cells, COUNTED) - counted(program, 0, any_cells, COUNTED)) / COUNTED
 
 
-def least(runs):
-    """The least time of each run, of many in turn."""
-    took = []
-    for _ in range(15):
-        took.append([])
-        for program, shape in runs:
-            begun = time.perf_counter()
-            run(program, shape, 0, TIMES)
-            took[-1].append(time.perf_counter() - begun)
-    return [min(t) for t in zip(*took)]
+def timed(*what):
+    """The time of a run."""
+    begun = time.perf_counter()
+    run(*what, TIMES)
+    return time.perf_counter() - begun
+
+
+def least(cells):
+    """The least time of each, of many runs in turn."""
+    return [min(took) for took in zip(*([timed(*cell) for cell in cells] for _ in range(15)))]
 
 
 def table(area, some, rust):
-    programs = [(area, 0), (some, 1), (rust, 0), (rust, 1)]
-    right = {run(p, shape, over, COUNTED)[0] for shape in SHAPES for p, over in programs[:2]}
-    right |= {run(p, shape, over, COUNTED)[0] for shape in IN_RUST.values() for p, over in programs[2:]}
-    if len(right) != 1:
+    """Prints the table."""
+    columns = [(area, 0), (rust, 0), (some, 1), (rust, 1)]
+    rows = [[(program, IN_RUST[shape] if program == rust else shape, over) for program, over in columns] for shape in SHAPES]
+    if len({run(*cell, COUNTED)[0] for row in rows for cell in row}) != 1:
         sys.exit('bench: the sums differ')
-    shapes = list(SHAPES)
-    took = least([(area, s) for s in shapes] + [(rust, IN_RUST[s]) for s in shapes])
-    times = [t / took[shapes.index(ONE)] for t in took]
+    took = least([cell for row in rows for cell in row[:2]])
+    took = dict(zip(SHAPES, zip(took[::2], took[1::2])))
     print('| Shape | Rattle | Rust | Rattle / Rust | time, Rattle | time, Rust | any cells: Rattle | any cells: Rust |')
     print('|---|---:|---:|---:|---:|---:|---:|---:|')
-    for at, shape in enumerate(shapes):
-        costs = [a_sum(p, shape if p != rust else IN_RUST[shape], over) for p, over in programs]
-        mine, any_mine, other, any_other = costs
-        print(f'| {SHAPES[shape]} | {mine:,.0f} | {other:,.0f} | {mine / other:.2f} | {times[at]:.2f} | {times[at + len(shapes)]:.2f} '
-              f'| {any_mine:,.0f} | {any_other:,.0f} |')
+    for (shape, what), row in zip(SHAPES.items(), rows):
+        mine, other, *any_cells = (a_sum(*cell) for cell in row)
+        times = (t / took[ONE][0] for t in took[shape])
+        cells = [f'{mine:,.0f}', f'{other:,.0f}', f'{mine / other:.2f}', *(f'{t:.2f}' for t in times), *(f'{n:,.0f}' for n in any_cells)]
+        print(f'| {what} | ' + ' | '.join(cells) + ' |')
 
 
 if __name__ == '__main__':
