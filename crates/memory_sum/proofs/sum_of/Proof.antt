@@ -27,7 +27,7 @@ cells-added s i past sum r h whole e =
     omega (arith, whole, e, sum-cut (past - i) (drop i s), ap sumOf (drop-drop (past - i) i s ∙ ap (λ (k : ℕ). drop k s) there))
 
 abbrev Inv-loop : tie.InvT-loop
-Inv-loop s sum₀ i₀ sum i = (i ≤ length s) × (sum ≤ 255 * i) × (sum + sumOf (drop i s) ≡ sumOf s)
+Inv-loop s sum₀ i₀ sum i = (i ≤ length s) × (sum + sumOf (drop i s) ≡ sumOf s) × (sum ≤ 255 * i)
 
 abbrev μ-loop : tie.MeasureT-loop
 μ-loop s sum₀ i₀ sum i = length s - i
@@ -66,8 +66,8 @@ loop-again c =
     let at = c .before .before .before .loop in
     let s = c .before .before .before .before .before .args .s .now in (
       omega arith,
+      omega (arith, cells-added s (at .i) _ (at .sum) _ (omega arith) (at .inv .1) (c .added-singly .ensures .0)),
       omega (arith, c .added-singly .ensures .1, part-length s (at .i) (at .i + 8 - at .i) (omega arith)),
-      cells-added s (at .i) (at .i + 8) (at .sum) _ (omega arith) (at .inv .2) (c .added-singly .ensures .0),
     )
 
 sub-added-singly-2 : tie.Need-sub-added-singly-2 Inv-loop μ-loop
@@ -89,7 +89,7 @@ returns : tie.Need-returns Inv-loop μ-loop
 returns c =
     let at = c .before .before .before .loop in
     let s = c .before .before .before .before .before .args .s .now in
-    let all = cells-added s (at .i) (length s) (at .sum) _ (omega arith) (at .inv .2) (c .added-singly2 .ensures .0) in (
+    let all = cells-added s (at .i) _ (at .sum) _ (omega arith) (at .inv .1) (c .added-singly2 .ensures .0) in (
       omega (arith, all, ap sumOf (drop-of-length-le s (le-refl _))),
       omega (arith, c .added-singly2 .ensures .1, part-length s (at .i) (length s - at .i) (omega arith)),
     )
