@@ -46,6 +46,10 @@ avers = 0x001014
 abbrev pub fvers : ℕ
 fvers = 0x001015
 
+-- "cells 0x001010 to 0x001012 are 30 00 03": the first of the three cells
+abbrev pub threeCells : ℕ
+threeCells = 0x001010
+
 -- "The firmware sum adds all cells 0x001003 to 0x007FFF, 28,669 of them"
 abbrev pub firstSummed : ℕ
 firstSummed = 0x001003

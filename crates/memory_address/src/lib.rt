@@ -72,6 +72,9 @@ pub const AVERS: FlashAddress = FlashAddress(0x001014);
 
 pub const FVERS: FlashAddress = FlashAddress(0x001015);
 
+// The first of the three cells that firmware needs to be 30 00 03.
+pub const THREE_CELLS: FlashAddress = FlashAddress(0x001010);
+
 // Whether a is a multiple of step from low to high, both in it.
 fn multiple_in(step: u32, low: u32, high: u32, a: u32) -> bool
     requires { ⌜ 0 < step ⌝ }

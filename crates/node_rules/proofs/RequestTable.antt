@@ -11,7 +11,9 @@ use lib.ListN.{length, getD, set, replicate}
 use borrow.Author.Tests.{eq-eqb, ne-eqb}
 use Rattle.base.specs.Parts.{part, sumOf}
 use Rattle.base.proofs.Choice.{true-both}
-use Rattle.memory_sum.specs.Sum.{firmwareSum}
+use Rattle.memory_sum.specs.Sum.{firmwareSum, flagByte}
+use Rattle.memory_sum.specs.Plain.{FlagSays}
+use Rattle.memory_sum.proofs.Laws.{worked-out, flag-only}
 use Rattle.frame_rules.specs.Frame.{typeOf}
 use Rattle.node_rules.specs.declared.HandledIn.the-variants.{InNormal}
 use Rattle.node_rules.specs.declared.Addressing.the-variants.{AsGroup, AsNode, AllZero, OwnNumbers}
@@ -52,11 +54,6 @@ other-group p d2 d3 (inr (x, y)) = rw (ne-eqb d3 0 x, ne-eqb d3 (p .group .0) y)
 other-numbers : (x y m g : ℕ) → (m ≡ x → ⊥) ⊎ (g ≡ y → ⊥) → (eqb m x && eqb g y) ≡ false
 other-numbers x y m g (inl d) = rw (ne-eqb m x d) refl
 other-numbers x y m g (inr d) = rw (ne-eqb g y d) (and-false (eqb m x))
-
--- the worked-out sum is that of the cells 0x001003 to 0x007FFF
-pub worked-out : (flash : List ℕ) → length flash ≡ 65536 → firmwareSum flash ≡ sumOf (part flash 0x001003 28669)
-unfolding firmwareSum
-worked-out flash l = rw (eq-eqb (length flash) 65536 l) refl
 
 module _ (n : Node) (flash eeprom : List ℕ) (fl : length flash ≡ 65536) (el : length eeprom ≡ 1024) (started : Bool)
     (mode : n .mode ≡ Normal started) (m g d0 d1 d2 d3 d4 d5 d6 d7 : ℕ) where
@@ -126,16 +123,18 @@ module _ (n : Node) (flash eeprom : List ℕ) (fl : length flash ≡ 65536) (el 
       (by-request 0x10 0x60 (kind 0x106 InNormal AsNode FirmwareType) refl refl refl refl (to-node (n .plate) d2 d3 a)
       ∙ simp (mode, s))
 
-  -- 0x106 to the node, "with firmware not started the reply has type 0x1F1: 01, worked-out sum high byte first, FF FF 03 04"
-  pub request-1F1 : ToNode (n .plate) d2 d3 → started ≡ false → (sum : ℕ) → sum ≡ sumOf (part flash 0x001003 28669)
+  -- 0x106 to the node, "with firmware not started the reply has type 0x1F1: .., worked-out sum high byte first, FF FF 03 04", and in front
+  -- of the sum the flag byte: what it says is said of FLASH as it is now, whatever the restart found
+  pub request-1F1 : ToNode (n .plate) d2 d3 → started ≡ false → (flag sum : ℕ) → FlagSays flag flash → sum ≡ sumOf (part flash 0x001003 28669)
       → canStep n (0x10 ∷ 0x60 ∷ m ∷ g ∷ eightOf d0 d1 d2 d3 d4 d5 d6 d7) flash eeprom
       ≡ repliesWith
-      (withOwn (n .plate) 0x1F 0x11 (eightOf 0x01 (sum / 65536 % 256) (sum / 256 % 256) (sum % 256) 0xFF 0xFF 0x03 0x04))
+      (withOwn (n .plate) 0x1F 0x11 (eightOf flag (sum / 65536 % 256) (sum / 256 % 256) (sum % 256) 0xFF 0xFF 0x03 0x04))
       (tidied n) flash eeprom
   unfolding done tidied found handledTypes
-  request-1F1 a s sum e =
+  request-1F1 a s flag sum says e =
+      let b : flagByte flash ≡ flag = sym (flag-only flash flag fl says) in
       let w : firmwareSum flash ≡ sum = worked-out flash fl ∙ sym e in
-      by-request 0x10 0x60 (kind 0x106 InNormal AsNode FirmwareType) refl refl refl refl (to-node (n .plate) d2 d3 a) ∙ simp (mode, s, w)
+      by-request 0x10 0x60 (kind 0x106 InNormal AsNode FirmwareType) refl refl refl refl (to-node (n .plate) d2 d3 a) ∙ simp (mode, s, b, w)
 
   -- 0x10D to the group, 0x10E to the node: "two frames, description 0 to 7 then 8 to 15"
   pub request-10D-10E : (b2 : ℕ) → ((b2 ≡ 0xD0) × ToGroup (n .plate) d2 d3) ⊎ ((b2 ≡ 0xE0) × ToNode (n .plate) d2 d3)

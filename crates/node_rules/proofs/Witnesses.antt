@@ -2,13 +2,15 @@
 -- Assumes nothing.
 use mathlib.Core.Path.{_≡_, refl, ap}
 use mathlib.Core.Bool.{true, false}
-use mathlib.Core.List.{List, [], _∷_}
+use mathlib.Core.List.{List, [], _∷_, _++_}
 use mathlib.Core.Logic.{inl, inr}
 use Prim.Native.Nat.{ℕ}
 use native.Mathlib.Omega.{arith}
 use lib.ListN.{length, replicate, length-replicate}
 use Rattle.memory_address.specs.declared.Address.the-variants.{Flash, Eeprom}
 use Rattle.memory_address.specs.Rule.{ruled}
+use Rattle.memory_sum.specs.Plain.{Starts}
+use Rattle.memory_sum.proofs.Laws.{flag-says}
 use Rattle.node_rules.specs.declared.Pin.the-variants.{CanAndUart}
 use Rattle.node_rules.specs.declared.Staged.{Staged}
 use Rattle.node_rules.specs.declared.Staged.the-variants.{Nothing, Read, Write, Erase}
@@ -24,7 +26,7 @@ use Rattle.node_rules.specs.Record.{receiving, plain, tidied}
 use Rattle.node_rules.specs.Requests.{kind, found, handledTypes, isProgramming}
 use Rattle.node_rules.specs.Step.{Step, canStep}
 use Rattle.node_rules.specs.Restart.{restartStep}
-use Rattle.node_rules.specs.Reading.{eightOf, SumsAgree}
+use Rattle.node_rules.specs.Reading.{eightOf}
 use Rattle.node_rules.proofs.Restarting.{restart-refused, restart-failed, restart-programming, restart-started, restart-not-started}
 use Rattle.node_rules.proofs.RequestTable.{request-100, request-101-102, request-103-104, request-105-106, request-1F1, request-10D-10E, request-10F-111, other-type, other-mode, not-for-group, not-for-node, not-for-own, not-for-zero}
 use Rattle.node_rules.proofs.ProgrammingList.{request-010-020, request-030-illegal, request-030-read-flash, request-030-write-flash, request-030-erase, request-030-read-eeprom, request-030-write-eeprom, request-040-nothing, request-040-read-flash, request-040-read-eeprom, request-040-write-flash, request-040-write-eeprom, request-040-erase}
@@ -100,7 +102,7 @@ module _ (F E : List ℕ) (fl : length F ≡ 65536) (el : length E ≡ 1024) whe
     ap numberIn (request-101-102 normal F E fl el true refl 0 0 0 0 0x00 0x00 0 0 0 0 0x10 (inl (refl, (refl, inl refl)))),
     ap numberIn (request-103-104 normal F E fl el true refl 0 0 0 0 0x05 0x0A 0 0 0 0 0x40 (inr (refl, (refl, refl)))),
     ap numberIn (request-105-106 normal F E fl el true refl 0 0 0 0 0x05 0x0A 0 0 0 0 0x60 (inr (refl, (refl, refl), refl))),
-    ap numberIn (request-1F1 (nodeIn (Normal false)) F E fl el false refl 0 0 0 0 0x05 0x0A 0 0 0 0 (refl, refl) refl _ refl),
+    ap numberIn (request-1F1 (nodeIn (Normal false)) F E fl el false refl 0 0 0 0 0x05 0x0A 0 0 0 0 (refl, refl) refl _ _ (flag-says F fl) refl),
     ap numberIn (request-10D-10E normal F E fl el true refl 0 0 0 0 0x00 0x0A 0 0 0 0 0xD0 (inl (refl, (refl, inr refl)))),
     ap numberIn (request-10F-111 normal F E fl el true refl 0 0 0 0 0x05 0x0A 0 0 0 0 0x11 0x10 (inr (refl, refl, (refl, refl)))),
     ap numberIn (other-type normal (asking 0x10 0x70 0x05 0x0A) F E fl el refl refl refl refl),
@@ -176,26 +178,37 @@ module _ (F E : List ℕ) (fl : length F ≡ 65536) (el : length E ≡ 1024) whe
 pub zeros : ℕ → List ℕ
 zeros size = replicate size 0
 
--- FLASH of zeros has agreeing sums, a blank one has not
-pub sums-met : SumsAgree (zeros 65536) × (SumsAgree (blank 65536) → ⊥)
-unfolding zeros blank
-sums-met = (refl, λ e. let z : _≡_ {A = ℕ} 0xFFFFFF 0x6F8D03 = e in omega arith)
+-- FLASH of zeros but for the low byte of its stored sum and the three cells
+pub flashWith : ℕ → ℕ → ℕ → ℕ → List ℕ
+flashWith low x y z = replicate 0x001002 0 ++ (low ∷ replicate 13 0 ++ (x ∷ y ∷ z ∷ replicate 0x00EFED 0))
+
+-- with 30 00 03 and their sum both conditions are met; all zeros have the sums only, and a blank FLASH has neither
+pub starts-met : Starts (flashWith 0x33 0x30 0x00 0x03) × (Starts (zeros 65536) → ⊥) × (Starts (blank 65536) → ⊥)
+unfolding zeros blank flashWith
+starts-met = (
+  (refl, (refl, refl, refl)),
+  λ h. let z : _≡_ {A = ℕ} 0 0x30 = h .1 .0 in omega arith,
+  λ h. let z : _≡_ {A = ℕ} 0xFF 0x30 = h .1 .0 in omega arith,
+)
 
 pub restarts-met : (n : Node) (c : Choices)
     → (restartStep n c false (blank 65536) (blank 1024) .node .mode ≡ Error)
     × (restartStep n c true (blank 65536) (blank 1024) .node .mode ≡ Programming Nothing)
-    × (restartStep n c true (zeros 65536) (zeros 1024) .node .mode ≡ Normal true)
+    × (restartStep n c true (flashWith 0x33 0x30 0x00 0x03) (zeros 1024) .node .mode ≡ Normal true)
+    × (restartStep n c true (zeros 65536) (zeros 1024) .node .mode ≡ Normal false)
     × (restartStep n c true (blank 65536) (zeros 1024) .node .mode ≡ Normal false)
     × (restartStep n c true [] [] ≡ record { number = 1; node = tidied n })
-unfolding zeros blank
+unfolding zeros blank flashWith
 restarts-met n c =
     let z : (size : ℕ) → length (zeros size) ≡ size = λ size. length-replicate {A = ℕ} size 0 in
     let d : _≡_ {A = ℕ} 0 0xFF → ⊥ = λ e. omega arith in (
       ap (λ (r : Restarted). r .node .mode) (restart-failed n c (blank 65536) (blank 1024) (sized 65536) (sized 1024)),
       ap (λ (r : Restarted). r .node .mode) (restart-programming n c (blank 65536) (blank 1024) (sized 65536) (sized 1024) refl),
       ap (λ (r : Restarted). r .node .mode)
-          (restart-started n c (zeros 65536) (zeros 1024) (z 65536) (z 1024) d (sums-met .0)),
+          (restart-started n c (flashWith 0x33 0x30 0x00 0x03) (zeros 1024) refl (z 1024) d (starts-met .0)),
       ap (λ (r : Restarted). r .node .mode)
-          (restart-not-started n c (blank 65536) (zeros 1024) (sized 65536) (z 1024) d (sums-met .1)),
+          (restart-not-started n c (zeros 65536) (zeros 1024) (z 65536) (z 1024) d (starts-met .1)),
+      ap (λ (r : Restarted). r .node .mode)
+          (restart-not-started n c (blank 65536) (zeros 1024) (sized 65536) (z 1024) d (starts-met .2)),
       restart-refused n c true [] [] (inl (λ e. let y : _≡_ {A = ℕ} 0 65536 = e in omega arith)),
     )

@@ -5,7 +5,6 @@ use mathlib.Core.List.{List, [], _∷_, _++_}
 use mathlib.Core.Logic.{_⊎_}
 use lib.Bits.{bitAnd}
 use lib.ListN.{getD, replicate}
-use Rattle.base.specs.Parts.{part, sumOf, highFirst}
 use Rattle.node_rules.specs.declared.Staged.{Staged}
 use Rattle.node_rules.specs.declared.Mode.the-variants.{Programming}
 use Rattle.node_rules.specs.declared.Noise.{Noise}
@@ -73,8 +72,3 @@ abbrev pub StaysOf : Noise → List ℕ → List ℕ → Type 0
 StaysOf KeepFromNext fifteen held =
     (first : ℕ) × (passed : List ℕ) × (fifteen ≡ first ∷ passed ++ held) × NoStart passed × ((held ≡ []) ⊎ (getD held 0 0 ≡ 0xAA))
 StaysOf DropAll fifteen held = held ≡ []
-
--- "stored sum equals firmware sum", by place
-abbrev pub SumsAgree : List ℕ → Type 0
-SumsAgree flash =
-    highFirst (getD flash 0x001000 0) (getD flash 0x001001 0) (getD flash 0x001002 0) ≡ sumOf (part flash 0x001003 28669)

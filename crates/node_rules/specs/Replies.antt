@@ -9,7 +9,7 @@ use Rattle.frame_rules.specs.Frame.{typeOf}
 use Rattle.memory_address.specs.Places.{eepromCell, description, atype, avers, fvers}
 use Rattle.memory_address.specs.declared.Address.{Address}
 use Rattle.memory_address.specs.declared.Address.the-variants.{Flash, Eeprom}
-use Rattle.memory_sum.specs.Sum.{firmwareSum}
+use Rattle.memory_sum.specs.Sum.{firmwareSum, flagByte}
 use Rattle.node_rules.specs.declared.Mode.{Mode}
 use Rattle.node_rules.specs.declared.Mode.the-variants.{Normal, Programming, Error, Waiting}
 use Rattle.node_rules.specs.declared.Plate.{Plate}
@@ -37,10 +37,11 @@ abbrev pub firmwareData : List ℕ → List ℕ
 firmwareData flash =
     0x30 ∷ 0x00 ∷ 0x03 ∷ getD flash atype 0 ∷ getD flash avers 0 ∷ getD flash fvers 0 ∷ 0x03 ∷ 0x04 ∷ []
 
--- "To 0x106 with firmware not started the reply has type 0x1F1: 01, worked-out sum high byte first, FF FF 03 04"
+-- "To 0x106 with firmware not started the reply has type 0x1F1: .., worked-out sum high byte first, FF FF 03 04"; the flag byte in front of
+-- it as request A4 has it, "as found when asked": of FLASH as it is then
 abbrev pub firmwareErrorData : List ℕ → List ℕ
 firmwareErrorData flash =
-    0x01 ∷ firmwareSum flash / 65536 % 256 ∷ firmwareSum flash / 256 % 256 ∷ firmwareSum flash % 256 ∷ 0xFF ∷ 0xFF ∷ 0x03 ∷ 0x04 ∷ []
+    flagByte flash ∷ firmwareSum flash / 65536 % 256 ∷ firmwareSum flash / 256 % 256 ∷ firmwareSum flash % 256 ∷ 0xFF ∷ 0xFF ∷ 0x03 ∷ 0x04 ∷ []
 
 abbrev pub hasStarted : Mode → Bool
 hasStarted (Normal started) = started

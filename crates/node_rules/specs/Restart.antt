@@ -15,8 +15,8 @@ use Rattle.node_rules.specs.declared.Node.{Node}
 use Rattle.node_rules.specs.declared.Restarted.{Restarted}
 use Rattle.node_rules.specs.Record.{receiving, tidied}
 
--- "Failed self-test: error mode. Else BOOTFL 0xFF: programming, nothing staged. Else normal, firmware started exactly if stored sum
--- equals firmware sum."
+-- "Failed self-test: error mode. Else BOOTFL 0xFF: programming, nothing staged. Else normal"; "At a restart that reaches normal mode,
+-- firmware now starts exactly if the sums are equal and cells 0x001010 to 0x001012 are 30 00 03."
 abbrev pub modeReached : Bool → List ℕ → List ℕ → Mode
 modeReached passed flash eeprom =
     cond passed (cond (eqb (getD eeprom (eepromCell bootfl) 0) 0xFF) (Programming Nothing) (Normal (starts flash))) Error
