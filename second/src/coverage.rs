@@ -8,6 +8,7 @@ use crate::node::{Mode, Node, Staged, HELD};
 use crate::numbers::*;
 use crate::piece_coverage::{Met, Pieces};
 use crate::session::{Answer, Session};
+use crate::start_coverage::Starts;
 use crate::uart_coverage::Run;
 use crate::way_coverage::Ways;
 use std::collections::HashMap;
@@ -280,6 +281,7 @@ struct Table {
     run: Run,
     pieces: Pieces,
     ways: Ways,
+    starts: Starts,
     answered: u64,
 }
 
@@ -292,6 +294,7 @@ impl Table {
             run: Run::new(),
             pieces: Pieces::default(),
             ways: Ways::default(),
+            starts: Starts::default(),
             answered: 0,
         }
     }
@@ -316,6 +319,8 @@ impl Table {
         let answer = self.session.apply(event);
         let of_ways = self.ways.take(&before, &self.session, event, answer.as_ref());
         self.count(of_ways);
+        let of_starts = self.starts.take(&before, &self.session, event, answer.as_ref());
+        self.count(of_starts);
         let Some(answer) = answer else {
             self.run.break_off();
             self.pieces = Pieces::default();

@@ -2,6 +2,7 @@
 
 use crate::numbers::*;
 use crate::piece_coverage::PIECE_ROWS;
+use crate::start_coverage;
 use crate::uart_coverage::RUN_ROWS;
 use crate::way_coverage;
 
@@ -138,5 +139,6 @@ pub fn wanted() -> Vec<String> {
         rows.extend(RECORD_ROWS.iter().map(|row| format!("{call} {row}")));
     }
     rows.extend(way_coverage::wanted());
+    rows.extend(start_coverage::wanted());
     rows
 }

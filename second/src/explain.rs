@@ -2,6 +2,7 @@
 
 use crate::event::{records, Event};
 use crate::frames::{self, Frame};
+use crate::memory::{firmware_sum, flag_byte, stored_sum, THREE_CELLS};
 use crate::node::{Node, HELD};
 use crate::node_record::NODE;
 use crate::numbers::words;
@@ -37,6 +38,17 @@ fn frame_words(frame: &Frame) -> String {
         frame[2],
         frame[3],
         pairs(&frame[4..]),
+    )
+}
+
+/// What decides whether firmware starts, in words.
+fn firmware_words(flash: &[u8]) -> String {
+    format!(
+        "stored sum 0x{:06X}, firmware sum 0x{:06X}, three cells {}, flag byte 0x{:02X}",
+        stored_sum(flash),
+        firmware_sum(flash),
+        pairs(&flash[THREE_CELLS..][..3]),
+        flag_byte(flash),
     )
 }
 
@@ -167,6 +179,7 @@ fn told(session: &Session, before: &Node, event: &Event, answer: &Answer) -> Str
         format!("kind 0x{:02X}", event.kind()),
         format!("what: {}", event_words(event, before)),
         format!("lent: FLASH {}, EEPROM {}", session.lent_flash, session.lent_eeprom),
+        format!("FLASH after: {}", firmware_words(&session.flash)),
         format!("meant where nothing is said: the {:?} way", session.meant),
         format!("node before: {}", node_words(before)),
         format!("number {}: {}", answer.number, words(answer.number)),

@@ -3,6 +3,8 @@
 
 mod apply_file;
 mod apply_recipes;
+mod before_a4;
+mod changed_by_a4;
 mod coverage;
 mod coverage_rows;
 mod digest;
@@ -28,11 +30,15 @@ mod recipes_in_pieces;
 #[cfg(test)]
 mod samples;
 mod session;
+mod start_coverage;
+#[cfg(test)]
+mod start_samples;
 mod uart_coverage;
 mod way_coverage;
 #[cfg(test)]
 mod ways_samples;
 
+use before_a4::Rule;
 use generate::Kind;
 use node::Way;
 use std::io::{self, BufWriter, Read, Write};
@@ -41,8 +47,11 @@ use std::process::ExitCode;
 const USAGE: &str = "second generate SEED SESSIONS EVENTS FULL > stream
 second pieces SEED SESSIONS EVENTS FULL > stream
 second ways SEED SESSIONS EVENTS FULL > stream
+second starts SEED SESSIONS EVENTS FULL > stream
 second ask old|new > stream
 second answer < stream
+second answer-before-a4 < stream
+second changed-by-a4 < stream
 second coverage < stream
 second explain N < stream
 second recipes SEED COUNT > stream
@@ -81,13 +90,14 @@ fn run(arguments: &[&str], out: &mut impl Write) -> io::Result<Option<String>> {
         text.parse().map_err(|_| wrong())
     };
     match arguments {
-        [command @ ("generate" | "pieces" | "ways"), seed, sessions, events, full] => {
+        [command @ ("generate" | "pieces" | "ways" | "starts"), seed, sessions, events, full] => {
             let full = number(full)?.min(65_535) as u16;
             let (sessions, events) = (number(sessions)? as u32, number(events)?);
             let kind = match *command {
                 "generate" => Kind::Bytes,
                 "pieces" => Kind::Pieces,
-                _ => Kind::Ways,
+                "ways" => Kind::Ways,
+                _ => Kind::Starts,
             };
             generate::generate(kind, number(seed)?, sessions, events, full, out)?;
             Ok(None)
@@ -99,7 +109,11 @@ fn run(arguments: &[&str], out: &mut impl Write) -> io::Result<Option<String>> {
         ["ask-recipes", name @ ("old" | "new")] => {
             recipe_stream::write_meant(named(name), out).map(|_| None)
         }
-        ["answer"] => session::answer_stream(&input()?, out).map(|_| None),
+        ["answer"] => session::answer_stream(&input()?, Rule::Now, out).map(|_| None),
+        ["answer-before-a4"] => {
+            session::answer_stream(&input()?, Rule::BeforeA4, out).map(|_| None)
+        }
+        ["changed-by-a4"] => changed_by_a4::changed_by_a4(&input()?, out),
         ["coverage"] => Ok(complaint(coverage::coverage(&input()?, out)?)),
         ["explain", event] => match explain::explain(&input()?, number(event)?) {
             Some(text) => writeln!(out, "{text}").map(|_| None),

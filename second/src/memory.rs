@@ -1,4 +1,5 @@
-//! FLASH and EEPROM: the address rule, rows and blocks, the firmware sum.
+//! FLASH and EEPROM: the address rule, rows and blocks, the firmware sum, and whether firmware
+//! starts.
 
 use crate::numbers::*;
 
@@ -14,11 +15,18 @@ pub const BOOTFL: usize = 0x00;
 pub const MODULE: usize = 0x26;
 pub const GROUP: usize = 0x27;
 pub const DESCRIPTION: usize = 0x30;
-/// FLASH addresses of the stored sum, of ATYPE AVERS FVERS, and the area of the firmware sum.
+/// FLASH addresses of the stored sum, of the three cells that firmware needs to start, of ATYPE
+/// AVERS FVERS, and the area of the firmware sum.
 pub const STORED_SUM: usize = 0x1000;
+pub const THREE_CELLS: usize = 0x1010;
 pub const ATYPE: usize = 0x1013;
 pub const SUM_FIRST: usize = 0x1003;
 pub const SUM_LAST: usize = 0x7FFF;
+/// What the three cells are in firmware that starts.
+pub const RIGHT_CELLS: [u8; 3] = [0x30, 0x00, 0x03];
+/// The bits of 0x1F1's flag byte.
+pub const SUMS_DIFFER: u8 = 0x01;
+pub const CELLS_DIFFER: u8 = 0x02;
 
 #[derive(Clone, Copy, PartialEq, Eq, Debug)]
 pub enum Command {
@@ -145,4 +153,17 @@ pub fn firmware_sum(flash: &[u8]) -> u32 {
 /// The stored sum, high byte first.
 pub fn stored_sum(flash: &[u8]) -> u32 {
     flash[STORED_SUM..][..3].iter().fold(0, |sum, &cell| sum << 8 | cell as u32)
+}
+
+/// The flag byte of a FLASH as it is (request A4): bit 0 says that the sums differ, bit 1 that the
+/// three cells do.
+pub fn flag_byte(flash: &[u8]) -> u8 {
+    let sums = if stored_sum(flash) != firmware_sum(flash) { SUMS_DIFFER } else { 0 };
+    let cells = if flash[THREE_CELLS..][..3] != RIGHT_CELLS { CELLS_DIFFER } else { 0 };
+    sums | cells
+}
+
+/// Whether firmware starts: the sums are equal, and the three cells are 30 00 03.
+pub fn starts(flash: &[u8]) -> bool {
+    flag_byte(flash) == 0
 }

@@ -191,7 +191,7 @@ impl Node {
         } else if lent.eeprom[BOOTFL] == 0xFF {
             Mode::Programming(None)
         } else {
-            Mode::Normal { started: stored_sum(lent.flash) == firmware_sum(lent.flash) }
+            Mode::Normal { started: starts(lent.flash) }
         };
         DONE
     }
@@ -337,8 +337,9 @@ impl Node {
                 vec![self.reply(kind, [0x30, 0x00, 0x03, 0xFF, id0, id1, id2, id3])]
             }
             0x106 if !started => {
+                let flags = flag_byte(lent.flash);
                 let [_, high, middle, low] = firmware_sum(lent.flash).to_be_bytes();
-                vec![self.reply(0x1F1, [0x01, high, middle, low, 0xFF, 0xFF, 0x03, 0x04])]
+                vec![self.reply(0x1F1, [flags, high, middle, low, 0xFF, 0xFF, 0x03, 0x04])]
             }
             0x105 | 0x106 => {
                 let firmware = &lent.flash[ATYPE..];

@@ -131,7 +131,7 @@ fn blank_flash_sum() {
 fn incorrect_firmware_for_0x106_alone() {
     let mut session = session(0x00, 0);
     let (_, reply) = can(&mut session, "10 60 00 00 00 00 05 0A 00 00 00 00");
-    assert_eq!(reply, bytes("1F 11 05 0A 01 6F 8D 03 FF FF 03 04"));
+    assert_eq!(reply, bytes("1F 11 05 0A 03 6F 8D 03 FF FF 03 04"));
     let (_, reply) = can(&mut session, "10 50 00 00 00 00 00 0A 00 00 00 00");
     assert_eq!(reply, bytes("10 51 05 0A 30 00 03 FF FF FF 03 04"));
 }
@@ -363,8 +363,9 @@ fn runs_of_uart_bytes() {
 fn round_sums() {
     let mut session = session(0x00, 0);
     session.flash[SUM_FIRST..=SUM_LAST].fill(0x00);
-    session.flash[SUM_FIRST..][..256].fill(0xFF);
-    session.flash[SUM_FIRST + 256..][..2].fill(0x80);
+    session.flash[THREE_CELLS..][..3].copy_from_slice(&RIGHT_CELLS);
+    session.flash[0x2000..][..256].fill(0xFF);
+    session.flash[0x2100] = 0xCD;
     assert_eq!(firmware_sum(&session.flash), 65_536);
     for (stored, started) in [([1, 0, 0], true), ([0, 0, 0], false), ([2, 0, 0], false)] {
         session.flash[STORED_SUM..][..3].copy_from_slice(&stored);

@@ -1,12 +1,15 @@
 //! A session: memories, node, counts and digest, and what each event does to them.
 
+use crate::before_a4::Rule;
 use crate::digest::Digest;
-use crate::event::{records, Event};
-use crate::frames::{self, FRAME, WRAPPED};
+use crate::event::{records, Event, PIECES};
+use crate::frames::{self, Frame, FRAME, WRAPPED};
 use crate::memory::{self, Address, Lent, EEPROM_BASE, EEPROM_CELLS, FLASH_CELLS};
 use crate::node::{Node, Outcome, Pin, Way};
 use crate::node_record;
+use crate::numbers::DONE;
 use std::io::{self, Write};
+use std::ops::Range;
 
 /// How many cells a session has of each memory: more than the node's, so that too many can be lent.
 pub const SESSION_FLASH: usize = 131_136;
@@ -31,6 +34,8 @@ pub struct Session {
     pub meant: Way,
     /// Whether answers tell the way.
     pub tells_way: bool,
+    /// The rule by which firmware starts, of the whole stream.
+    pub rule: Rule,
     digest: Digest,
     restart: [u64; 2],
     can: [u64; 12],
@@ -50,6 +55,24 @@ impl Answer {
     /// The bytes that a piece took.
     pub fn taken(&self) -> usize {
         self.line[TAKEN_AT] as usize
+    }
+
+    /// Where the line of a call that may have replies has the first, with its wrapping on UART.
+    pub fn reply_at(&self) -> Option<Range<usize>> {
+        match self.line[0] {
+            0x02 => Some(3..3 + FRAME),
+            0x03 => Some(3..3 + WRAPPED),
+            PIECES => Some(4..4 + WRAPPED),
+            _ => None,
+        }
+    }
+
+    /// The first reply, without its wrapping.
+    pub fn reply(&self) -> Option<Frame> {
+        let at = self.reply_at()?;
+        let replies = self.line[at.start - 1];
+        let from = if at.len() == FRAME { at.start } else { at.start + 1 };
+        (replies > 0).then(|| std::array::from_fn(|i| self.line[from + i]))
     }
 }
 
@@ -79,6 +102,11 @@ pub fn hex(bytes: &[u8]) -> String {
 }
 
 impl Session {
+    /// The state before any session has begun, with the rule of a stream.
+    pub fn by(rule: Rule) -> Session {
+        Session { rule, ..Session::new() }
+    }
+
     /// The state before any session has begun.
     pub fn new() -> Session {
         Session {
@@ -92,6 +120,7 @@ impl Session {
             full: 0,
             meant: Way::default(),
             tells_way: false,
+            rule: Rule::default(),
             digest: Digest::default(),
             restart: [0; 2],
             can: [0; 12],
@@ -142,20 +171,23 @@ impl Session {
             Event::Restart { pin, self_test, way } => {
                 let pin = if *pin == 0 { Pin::CanOnly } else { Pin::CanAndUart };
                 let way = node_record::way(*way, self.meant);
-                let mut bytes = vec![self.node.restart(&lent, pin, *self_test == 0, way)];
-                bytes.extend(self.node_bytes());
-                bytes
+                let number = self.node.restart(&lent, pin, *self_test == 0, way);
+                if number == DONE {
+                    self.rule.mark(&mut self.node, lent.flash);
+                }
+                [vec![number], self.node_bytes()].concat()
             }
             Event::CanFrame(frame) => {
-                let outcome = self.node.can_frame(&mut lent, frame);
+                let outcome = self.rule.told(self.node.can_frame(&mut lent, frame));
                 with_replies(&outcome, FRAME, self.node_bytes())
             }
             Event::UartByte(byte) => {
-                let outcome = self.node.uart_byte(&mut lent, *byte);
+                let outcome = self.rule.told(self.node.uart_byte(&mut lent, *byte));
                 with_replies(&outcome, WRAPPED, self.node_bytes())
             }
             Event::UartPieces { .. } => {
                 let (taken, outcome) = self.node.uart_piece(&mut lent, event.piece()?);
+                let outcome = self.rule.told(outcome);
                 let mut bytes = with_replies(&outcome, WRAPPED, self.node_bytes());
                 bytes.insert(TAKEN_AT - 1, taken as u8);
                 bytes
@@ -217,7 +249,7 @@ impl Session {
             Event::Begin { flash, eeprom, fixed, full, step, more, tells_way } => {
                 let (number, full, meant) = (self.number + 1, *full, self.meant);
                 let tells_way = *tells_way != 0;
-                *self = Session { number, full, meant, tells_way, ..Session::new() };
+                *self = Session { number, full, meant, tells_way, ..Session::by(self.rule) };
                 fill(&mut self.flash, *flash, *step, *more);
                 fill(&mut self.eeprom, *eeprom, *step, *more);
                 self.node = Node::fresh(*fixed);
@@ -256,9 +288,9 @@ impl Session {
     }
 }
 
-/// Interprets a whole stream and prints what PROTOCOL.md says.
-pub fn answer_stream(stream: &[u8], out: &mut impl Write) -> io::Result<()> {
-    let mut session = Session::new();
+/// Interprets a whole stream by a rule and prints what PROTOCOL.md says.
+pub fn answer_stream(stream: &[u8], rule: Rule, out: &mut impl Write) -> io::Result<()> {
+    let mut session = Session::by(rule);
     for record in records(stream) {
         let mut next = Event::read(record);
         while let Some(event) = next.take() {

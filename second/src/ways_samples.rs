@@ -2,6 +2,7 @@
 //! no frame behind noise.
 
 use crate::apply_recipes::apply_recipes;
+use crate::before_a4::Rule;
 use crate::event::*;
 use crate::explain::explain;
 use crate::frames::{self, FRAME, START, STOP, WRAPPED};
@@ -368,7 +369,7 @@ fn old_logs_ask_by_name() {
         assert!(wrong > 20, "{wrong}");
         let answers = |stream: &[u8]| {
             let mut text = Vec::new();
-            answer_stream(stream, &mut text).unwrap();
+            answer_stream(stream, Rule::Now, &mut text).unwrap();
             text
         };
         assert_ne!(answers(&named), answers(&log));

@@ -100,12 +100,14 @@ flag-only flash flag l h =
     let high : flag / 2 ≡ flagByte flash / 2 = one-bit (CellsAgree flash) _ _ (h .1) (says .1) in
     omega (arith, low, high)
 
--- firmware of a full FLASH starts exactly if the sums agree and the three cells do
-pub starts-if : (flash : List ℕ) → length flash ≡ 65536 → Starts flash → starts flash ≡ true
+-- firmware of a full FLASH starts if no flag is set
+pub starts-by-flag : (flash : List ℕ) (flag : ℕ) → length flash ≡ 65536 → FlagSays flag flash → starts flash ≡ eqb flag 0
 unfolding starts
-starts-if flash l h =
-    let none : flagByte flash ≡ 0 = sym (flag-only flash 0 l (inl (refl, h .0), inl (refl, h .1))) in
-    simp (eq-eqb (length flash) 65536 l) (eq-eqb (flagByte flash) 0 none)
+starts-by-flag flash flag l says = rw (eq-eqb (length flash) 65536 l, ← flag-only flash flag l says) refl
+
+-- and so exactly if the sums agree and the three cells do
+pub starts-if : (flash : List ℕ) → length flash ≡ 65536 → Starts flash → starts flash ≡ true
+starts-if flash l h = starts-by-flag flash 0 l (inl (refl, h .0), inl (refl, h .1))
 
 pub starts-only-if : (flash : List ℕ) → starts flash ≡ true → (length flash ≡ 65536) × Starts flash
 unfolding starts

@@ -32,13 +32,15 @@ pub fn firmware_type(flash: &[u8]) -> [u8; 8]
     [0x30, 0x00, 0x03, atype, avers, fvers, 0x03, 0x04]
 }
 
-// 01, the worked-out sum high byte first, FF FF 03 04.
+// The flag byte as FLASH is now, the worked-out sum high byte first, FF FF 03 04.
 pub fn firmware_error(flash: &[u8]) -> [u8; 8]
     ensures { λ r. ⌜ r ≡ firmwareErrorData (now (flash .entry)) ⌝ }
 {
-    let sum = memory_sum::firmware_sum(flash);
+    let found = memory_sum::examine(flash);
+    let sum = found.sum;
+    let flags = found.flags;
     let high = (sum / 65536 % 256) as u8;
     let middle = (sum / 256 % 256) as u8;
     let low = (sum % 256) as u8;
-    [0x01, high, middle, low, 0xFF, 0xFF, 0x03, 0x04]
+    [flags, high, middle, low, 0xFF, 0xFF, 0x03, 0x04]
 }

@@ -2,11 +2,12 @@
 -- Assumes nothing.
 use mathlib.Core.Path.{_≡_, refl, ap}
 use mathlib.Core.Bool.{true, false}
-use mathlib.Core.List.{List, [], _∷_, _++_}
+use mathlib.Core.List.{List, [], _∷_}
 use mathlib.Core.Logic.{inl, inr}
 use Prim.Native.Nat.{ℕ}
 use native.Mathlib.Omega.{arith}
 use lib.ListN.{length, replicate, length-replicate}
+use Rattle.base.specs.Parts.{patch}
 use Rattle.memory_address.specs.declared.Address.the-variants.{Flash, Eeprom}
 use Rattle.memory_address.specs.Rule.{ruled}
 use Rattle.memory_sum.specs.Plain.{Starts}
@@ -27,6 +28,7 @@ use Rattle.node_rules.specs.Requests.{kind, found, handledTypes, isProgr
 use Rattle.node_rules.specs.Step.{Step, canStep}
 use Rattle.node_rules.specs.Restart.{restartStep}
 use Rattle.node_rules.specs.Reading.{eightOf}
+use Rattle.node_rules.specs.Examples.{flashWith}
 use Rattle.node_rules.proofs.Restarting.{restart-refused, restart-failed, restart-programming, restart-started, restart-not-started}
 use Rattle.node_rules.proofs.RequestTable.{request-100, request-101-102, request-103-104, request-105-106, request-1F1, request-10D-10E, request-10F-111, other-type, other-mode, not-for-group, not-for-node, not-for-own, not-for-zero}
 use Rattle.node_rules.proofs.ProgrammingList.{request-010-020, request-030-illegal, request-030-read-flash, request-030-write-flash, request-030-erase, request-030-read-eeprom, request-030-write-eeprom, request-040-nothing, request-040-read-flash, request-040-read-eeprom, request-040-write-flash, request-040-write-eeprom, request-040-erase}
@@ -178,13 +180,9 @@ module _ (F E : List ℕ) (fl : length F ≡ 65536) (el : length E ≡ 1024) whe
 pub zeros : ℕ → List ℕ
 zeros size = replicate size 0
 
--- FLASH of zeros but for the low byte of its stored sum and the three cells
-pub flashWith : ℕ → ℕ → ℕ → ℕ → List ℕ
-flashWith low x y z = replicate 0x001002 0 ++ (low ∷ replicate 13 0 ++ (x ∷ y ∷ z ∷ replicate 0x00EFED 0))
-
 -- with 30 00 03 and their sum both conditions are met; all zeros have the sums only, and a blank FLASH has neither
-pub starts-met : Starts (flashWith 0x33 0x30 0x00 0x03) × (Starts (zeros 65536) → ⊥) × (Starts (blank 65536) → ⊥)
-unfolding zeros blank flashWith
+pub starts-met : Starts (flashWith 0x33 0x001010 0x30 0x00 0x03) × (Starts (zeros 65536) → ⊥) × (Starts (blank 65536) → ⊥)
+unfolding zeros blank flashWith patch
 starts-met = (
   (refl, (refl, refl, refl)),
   λ h. let z : _≡_ {A = ℕ} 0 0x30 = h .1 .0 in omega arith,
@@ -194,18 +192,18 @@ starts-met = (
 pub restarts-met : (n : Node) (c : Choices)
     → (restartStep n c false (blank 65536) (blank 1024) .node .mode ≡ Error)
     × (restartStep n c true (blank 65536) (blank 1024) .node .mode ≡ Programming Nothing)
-    × (restartStep n c true (flashWith 0x33 0x30 0x00 0x03) (zeros 1024) .node .mode ≡ Normal true)
+    × (restartStep n c true (flashWith 0x33 0x001010 0x30 0x00 0x03) (zeros 1024) .node .mode ≡ Normal true)
     × (restartStep n c true (zeros 65536) (zeros 1024) .node .mode ≡ Normal false)
     × (restartStep n c true (blank 65536) (zeros 1024) .node .mode ≡ Normal false)
     × (restartStep n c true [] [] ≡ record { number = 1; node = tidied n })
-unfolding zeros blank flashWith
+unfolding zeros blank flashWith patch
 restarts-met n c =
     let z : (size : ℕ) → length (zeros size) ≡ size = λ size. length-replicate {A = ℕ} size 0 in
     let d : _≡_ {A = ℕ} 0 0xFF → ⊥ = λ e. omega arith in (
       ap (λ (r : Restarted). r .node .mode) (restart-failed n c (blank 65536) (blank 1024) (sized 65536) (sized 1024)),
       ap (λ (r : Restarted). r .node .mode) (restart-programming n c (blank 65536) (blank 1024) (sized 65536) (sized 1024) refl),
       ap (λ (r : Restarted). r .node .mode)
-          (restart-started n c (flashWith 0x33 0x30 0x00 0x03) (zeros 1024) refl (z 1024) d (starts-met .0)),
+          (restart-started n c (flashWith 0x33 0x001010 0x30 0x00 0x03) (zeros 1024) refl (z 1024) d (starts-met .0)),
       ap (λ (r : Restarted). r .node .mode)
           (restart-not-started n c (zeros 65536) (zeros 1024) (z 65536) (z 1024) d (starts-met .1)),
       ap (λ (r : Restarted). r .node .mode)

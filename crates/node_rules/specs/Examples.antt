@@ -5,7 +5,7 @@ use mathlib.Core.Path.{_≡_}
 use mathlib.Core.Bool.{Bool, false, true}
 use mathlib.Core.List.{List, [], _∷_, _++_}
 use lib.ListN.{take, replicate}
-use Rattle.base.specs.Parts.{sumOf}
+use Rattle.base.specs.Parts.{patch, sumOf}
 use Rattle.memory_address.specs.Places.{full}
 use Rattle.memory_address.specs.Ranges.{FlashRow, EepromRow, Block}
 use Rattle.memory_address.specs.declared.FlashAddress.{FlashAddress}
@@ -222,3 +222,7 @@ abbrev pub described : List ℕ
 described =
     replicate 0x30 0xFF ++
     (0x41 ∷ 0x42 ∷ 0x43 ∷ 0x44 ∷ 0x45 ∷ 0x46 ∷ 0x47 ∷ 0x48 ∷ 0x49 ∷ 0x4A ∷ 0x4B ∷ 0x4C ∷ 0x4D ∷ 0x4E ∷ 0x4F ∷ 0x50 ∷ replicate 0x3C0 0xFF)
+
+-- FLASH of zeros but for its stored sum, of one byte, and three cells
+unfoldable pub flashWith : ℕ → ℕ → ℕ → ℕ → ℕ → List ℕ
+flashWith low place x y z = patch (patch (replicate 65536 0) 0x001002 (low ∷ [])) place (x ∷ y ∷ z ∷ [])

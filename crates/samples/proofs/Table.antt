@@ -6,7 +6,7 @@ use Rattle.memory_address.specs.Rule.{ruled}
 use Rattle.frame_rules.specs.Frame.{identifierOf, headOf}
 use Rattle.frame_rules.specs.Wrapping.{wrappedOf, rightlyWrapped}
 use Rattle.memory_leaves.specs.Leaves.{flashCellsAfter}
-use Rattle.memory_sum.specs.Sum.{firmwareSum, storedSumOf, starts}
+use Rattle.memory_sum.specs.Sum.{firmwareSum, storedSumOf, sumsDiffer, cellsDiffer, flagByte, starts}
 use Rattle.recipe.specs.Faults.{rulesAt, faultAt}
 use Rattle.recipe.specs.Reading.{readFrom, reading, recipeOf}
 use Rattle.recipe.specs.Frames.{itemFrames, itemsFrames, framesOf, joined, itemsCount, frameCount}
@@ -21,5 +21,5 @@ use Rattle.samples.specs.Samples.{samples}
 pub samples-hold : allRight samples ≡ true
 unfolding samples headOf identifierOf heldIn tidied uartStep wrappedOf rightlyWrapped handledTypes found done ruled
     flashCellsAfter rulesAt faultAt readFrom reading recipeOf itemFrames itemsFrames framesOf joined itemsCount frameCount checked
-    translated translatedOutput firmwareSum storedSumOf starts
+    translated translatedOutput firmwareSum storedSumOf sumsDiffer cellsDiffer flagByte starts
 samples-hold = refl

@@ -1,3 +1,4 @@
 pub mod Entries
 pub mod Uart
 pub mod Samples
+pub mod Starting

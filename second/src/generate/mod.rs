@@ -7,7 +7,9 @@ mod ports;
 mod records;
 mod requests;
 mod restarts;
+mod starts;
 
+use crate::before_a4::Rule;
 use crate::event::{Event, LONGEST, LONGEST_CAN, LONGEST_RING, MOST_CALLS, PIECES};
 use crate::memory::{EEPROM_BASE, EEPROM_CELLS, FLASH_CELLS};
 use crate::node::{Mode, Way};
@@ -24,6 +26,8 @@ pub enum Kind {
     Pieces,
     /// UART byte by byte and in pieces by turns, in both ways.
     Ways,
+    /// About what firmware needs to start; else as those in both ways.
+    Starts,
 }
 
 struct Writer<'a, W: Write> {
@@ -45,7 +49,8 @@ struct Writer<'a, W: Write> {
     result: io::Result<()>,
 }
 
-/// Writes a stream of sessions of a kind. Where it says which way is meant, the default is last.
+/// Writes a stream of sessions of a kind. Where it says which way is meant, the default is last. A
+/// stream of before A4 is steered by a node of before A4.
 pub fn generate(
     kind: Kind,
     seed: u64,
@@ -54,15 +59,14 @@ pub fn generate(
     full: u16,
     out: &mut impl Write,
 ) -> io::Result<()> {
-    let mut session = Session::new();
-    let salt = match kind {
-        Kind::Bytes => 0,
-        Kind::Pieces => 0x91EC_E500,
-        Kind::Ways => 0x3A75_0011,
+    let (salt, meant, rule) = match kind {
+        Kind::Bytes => (0, Way::Old, Rule::BeforeA4),
+        Kind::Pieces => (0x91EC_E500, Way::Old, Rule::BeforeA4),
+        Kind::Ways => (0x3A75_0011, Way::New, Rule::BeforeA4),
+        Kind::Starts => (0x57A2_7503, Way::New, Rule::Now),
     };
-    if kind != Kind::Ways {
-        session.meant = Way::Old;
-    }
+    let mut session = Session::by(rule);
+    session.meant = meant;
     let mut writer = Writer {
         out,
         random: Random::new(seed ^ salt),
@@ -73,11 +77,17 @@ pub fn generate(
         damage: 0,
         in_pieces: kind == Kind::Pieces,
         ring: Vec::new(),
-        both_ways: kind == Kind::Ways,
+        both_ways: kind == Kind::Ways || kind == Kind::Starts,
         result: Ok(()),
     };
+    if kind == Kind::Starts {
+        writer.emit(Event::Meant(1));
+    }
     for index in 0..sessions {
-        writer.play(index, full);
+        match kind {
+            Kind::Starts => writer.play_starts(index, full),
+            _ => writer.play(index, full),
+        }
     }
     if kind == Kind::Ways {
         writer.emit(Event::Meant(1));

@@ -111,7 +111,7 @@ impl<W: Write> Writer<'_, W> {
     }
 
     /// Sends a frame on UART without damage.
-    fn send_whole(&mut self, frame: Frame) {
+    pub fn send_whole(&mut self, frame: Frame) {
         self.send_bytes(&frames::wrapped(&frame));
     }
 

@@ -1,11 +1,11 @@
--- `node_reply::reading::firmware_error` meets its contract: the sum's three bytes.
+-- `node_reply::reading::firmware_error` meets its contract: the flag byte and the sum's three bytes, of one look at FLASH.
 -- Assumes nothing.
 use borrow.Author.Needs.{needs}
 use Rattle.node_reply.proofs.reading.firmware_error.Statement.{statement}
 use Rattle.node_reply.proofs.reading.firmware_error.Tie as tie
 
-firmware-sum-requires : tie.Need-firmware-sum-requires
-firmware-sum-requires c κs = search needs
+examine-requires : tie.Need-examine-requires
+examine-requires c κs = search needs
 
 cast-high : tie.Need-cast-high
 cast-high c = search needs
@@ -17,8 +17,8 @@ cast-low : tie.Need-cast-low
 cast-low c = search needs
 
 returns : tie.Need-returns
-returns c = simp (c .firmware-sum .ensures .0)
+returns c = simp (c .examine .ensures)
 
 pub firmware-error-spec : {M : Type 1} → statement M
 firmware-error-spec =
-    tie.close (tie.spec firmware-sum-requires cast-high cast-middle cast-low returns)
+    tie.close (tie.spec examine-requires cast-high cast-middle cast-low returns)
