@@ -52,9 +52,7 @@ impl Pair {
             return Err("the memories differ");
         }
         if !self.nodes_agree() {
-            return Err(
-                "the nodes differ in more than the mark, or the marks are not as they must",
-            );
+            return Err("the nodes are not equal but for a mark that must differ");
         }
         match (before, now) {
             (None, None) => Ok(None),

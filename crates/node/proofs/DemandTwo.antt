@@ -6,30 +6,34 @@ use mathlib.Core.Path.{_≡_, _∙_, sym, ap}
 use mathlib.Core.Bool.{Bool, true, false}
 use mathlib.Core.List.{List, [], _∷_, _++_}
 use Prim.Native.Nat.{ℕ, _%_}
-use lib.ListN.{length}
+use lib.ListN.{length, getD}
 use Rattle.base.specs.Parts.{sumOf}
+use Rattle.memory_address.specs.Ranges.{Exactly}
+use Rattle.memory_sum.specs.Plain.{Starts}
 use Rattle.frame_rules.specs.Frame.{typeOf}
 use Rattle.frame_rules.specs.Wrapping.{wrappedOf, innerOf}
+use Rattle.node_rules.specs.declared.Pin.{Pin}
 use Rattle.node_rules.specs.declared.Pin.the-variants.{CanAndUart}
+use Rattle.node_rules.specs.declared.Mode.{Mode}
 use Rattle.node_rules.specs.declared.Mode.the-variants.{Normal}
 use Rattle.node_rules.specs.declared.Choices.{Choices}
 use Rattle.node_rules.specs.declared.Node.{Node}
 use Rattle.node_rules.specs.declared.Answer.{Answer}
 use Rattle.node_rules.specs.declared.UartAnswer.{UartAnswer}
 use Rattle.node_rules.specs.declared.Restarted.{Restarted}
-use Rattle.node_rules.specs.Record.{heldOf, tidied}
+use Rattle.node_rules.specs.Record.{heldOf, plain, tidied}
 use Rattle.node_rules.specs.Requests.{isProgramming}
 use Rattle.node_rules.specs.Outcomes.{isDeaf}
 use Rattle.node_rules.specs.Restart.{restartStep}
 use Rattle.node_rules.specs.Step.{Step, after, canStep}
 use Rattle.node_rules.specs.Uart.{UartStep, heldWith, viaUart, uartStep}
 use Rattle.node_rules.specs.Runs.{State, state, collected}
-use Rattle.node_rules.specs.Reading.{SumsAgree}
-use Rattle.node_rules.proofs.Restarting.{marked-if, marked-only-if}
+use Rattle.node_rules.proofs.Restarting.{marked-if, marked-only-if, started-exactly}
 use Rattle.node_rules.proofs.Modes.{can-deaf, can-normal, can-programming, uart-deaf, uart-normal, uart-programming}
 use Rattle.node_rules.proofs.Agreement.{agreement}
-use Rattle.node.proofs.Calls.{restart-with-said, can-frame-said, uart-byte-said, bytes-said}
-use Rattle.node.specs.Calls.{RestartWith, CanFrame, UartByte, UartBytes}
+use Rattle.node.proofs.Calls.{restart-said, restart-with-said, can-frame-said, uart-byte-said, bytes-said}
+use Rattle.node.proofs.Restarts.{done-lengths, restart-with-number, plain-restart-number}
+use Rattle.node.specs.Calls.{Restart, RestartWith, CanFrame, UartByte, UartBytes}
 
 -- ---- a CAN frame
 
@@ -74,19 +78,39 @@ module _ {n : Node} {b : ℕ} {flash eeprom flash′ eeprom′ : List ℕ} {r : 
 
 -- ---- restart
 
+-- what holds of a mode exactly if P does holds so of an equal one
+exactly-said : {x y : Mode} {P : Type 0} → x ≡ y → Exactly (y ≡ Normal true) P → Exactly (x ≡ Normal true) P
+exactly-said e h = (λ s. h .0 (sym e ∙ s), λ p. e ∙ h .1 p)
+
 module _ {n : Node} {choices : Choices} {passed : Bool} {flash eeprom : List ℕ} {r : Restarted}
     (c : RestartWith n choices passed flash eeprom r) where
   pub restart-follows : (x : Restarted) → restartStep n choices passed flash eeprom ≡ x → r ≡ x
   restart-follows x e = restart-with-said c ∙ e
 
-  -- firmware is marked started exactly when a restart reaches normal mode and the sums agree
-  pub restart-marks : length flash ≡ 65536 → length eeprom ≡ 1024 → (b : Bool) → r .node .mode ≡ Normal b → SumsAgree flash → b ≡ true
-  restart-marks fl el b e g =
-      marked-if n choices flash eeprom fl el passed b (sym (ap (λ (y : Restarted). y .node .mode) (restart-with-said c)) ∙ e) g
+  mode-said : r .node .mode ≡ restartStep n choices passed flash eeprom .node .mode
+  mode-said = ap (λ (y : Restarted). y .node .mode) (restart-with-said c)
 
-  pub restart-marks-only : length flash ≡ 65536 → length eeprom ≡ 1024 → r .node .mode ≡ Normal true → SumsAgree flash
-  restart-marks-only fl el e =
-      marked-only-if n choices flash eeprom fl el passed (sym (ap (λ (y : Restarted). y .node .mode) (restart-with-said c)) ∙ e)
+  -- firmware is marked started exactly when a restart reaches normal mode, the sums are equal and the three cells are 30 00 03
+  pub restart-marks : length flash ≡ 65536 → length eeprom ≡ 1024 → (b : Bool) → r .node .mode ≡ Normal b → Starts flash → b ≡ true
+  restart-marks fl el b e = marked-if n choices flash eeprom fl el passed b (sym mode-said ∙ e)
+
+  pub restart-marks-only : length flash ≡ 65536 → length eeprom ≡ 1024 → r .node .mode ≡ Normal true → Starts flash
+  restart-marks-only fl el e = marked-only-if n choices flash eeprom fl el passed (sym mode-said ∙ e)
+
+  -- and with what it takes to reach normal mode, of every restart that gives 0
+  pub restart-starts-exactly : r .number ≡ 0
+      → Exactly (r .node .mode ≡ Normal true) ((passed ≡ true) × (getD eeprom 0 0 ≡ 0xFF → ⊥) × Starts flash)
+  restart-starts-exactly z =
+      let full = done-lengths n choices passed flash eeprom r (restart-with-number c) z in
+      exactly-said mode-said (started-exactly n choices flash eeprom (full .0) (full .1) passed)
+
+-- a plain restart
+module _ {n : Node} {pin : Pin} {passed : Bool} {flash eeprom : List ℕ} {r : Restarted} (c : Restart n pin passed flash eeprom r) where
+  pub plain-restart-starts-exactly : r .number ≡ 0
+      → Exactly (r .node .mode ≡ Normal true) ((passed ≡ true) × (getD eeprom 0 0 ≡ 0xFF → ⊥) × Starts flash)
+  plain-restart-starts-exactly z =
+      let full = done-lengths n (plain pin) passed flash eeprom r (plain-restart-number c) z in
+      exactly-said (ap (λ (y : Restarted). y .node .mode) (restart-said c)) (started-exactly n (plain pin) flash eeprom (full .0) (full .1) passed)
 
 -- ---- UART and CAN agree
 

@@ -63,6 +63,11 @@ module _ (n : Node) (choices : Choices) (passed : Bool) (flash eeprom : List ℕ
   number-in r (inl p) = inl (ap (λ (x : Restarted). x .number) (p .0), p .1, p .2)
   number-in r (inr p) = inr (ap (λ (x : Restarted). x .number) (p .0), p .1)
 
+  -- 0: both memories have their lengths
+  pub done-lengths : (r : Restarted) → RestartNumber r → r .number ≡ 0 → (length flash ≡ 65536) × (length eeprom ≡ 1024)
+  done-lengths r (inl p) z = (p .1, p .2)
+  done-lengths r (inr p) z = absurd (suc-ne-zero 0 (sym (p .0) ∙ z))
+
   done-in : (r : Restarted) → Cases r → r .number ≡ 0 → r ≡ whenDone
   done-in r (inl p) z = p .0
   done-in r (inr p) z = absurd (suc-ne-zero 0 (sym (ap (λ (x : Restarted). x .number) (p .0)) ∙ z))

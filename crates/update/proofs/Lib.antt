@@ -6,4 +6,5 @@ pub mod AnyCalls
 pub mod Whole
 pub mod SerialCalls
 pub mod Afterwards
+pub mod StartWitness
 pub mod PieceCalls

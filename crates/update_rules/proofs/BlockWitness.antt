@@ -37,10 +37,10 @@ pub blockRecipe : Recipe
 blockRecipe = record { moduleNumber = 0x05; groupNumber = 0x0A; items = block 0x001000 cells ∷ [] }
 
 -- a write of the last row of FLASH was staged when the recipe came
-stagedBefore : Staged
+unfoldable pub stagedBefore : Staged
 stagedBefore = Write (Flash (record { 0 = 0x00FFF8 }))
 
-pub node : Node
+unfoldable pub node : Node
 node =
     record {
       choices = plain CanAndUart;
@@ -50,7 +50,7 @@ node =
     }
 
 -- every bit of FLASH is cleared: no write alone would leave what the recipe says
-pub memories : Memories
+unfoldable pub memories : Memories
 memories = record { flash = replicate 65536 0x00; eeprom = replicate 1024 0xFF }
 
 cells-bytes : Bytes cells

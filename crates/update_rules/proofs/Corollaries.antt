@@ -1,7 +1,7 @@
 -- What follows where a recipe has arrived whole, as people ask for it: which cells stay, what BOOTFL ends as, which byte a cell ends with,
 -- what each answer shows, and what a restart then finds. It is read off the one statement, `Arrived`, that demand 3 gives on either port.
 -- Assumes nothing.
-use mathlib.Core.Path.{_≡_, _∙_, refl, ap}
+use mathlib.Core.Path.{_≡_, _∙_, refl, ap, sym}
 use mathlib.Core.Bool.{true}
 use mathlib.Core.List.{List, [], _∷_, _++_}
 use Prim.Native.Nat.{ℕ, _+_, _*_, _<_}
@@ -11,7 +11,10 @@ use lib.Seq.{getD-set-other}
 use Rattle.base.specs.Parts.{part}
 use Rattle.base.proofs.Patched.{inside-patch}
 use Rattle.memory_address.specs.Places.{flashCells, eepromCells, eepromCell, bootfl}
+use Rattle.memory_address.specs.Ranges.{Exactly}
 use Rattle.memory_sum.specs.Sum.{starts}
+use Rattle.memory_sum.specs.Plain.{Starts}
+use Rattle.memory_sum.proofs.Laws.{starts-if, starts-only-if}
 use Rattle.node_rules.specs.declared.Mode.the-variants.{Normal, Waiting}
 use Rattle.node_rules.specs.declared.Node.{Node}
 use Rattle.node_rules.specs.declared.Choices.{Choices}
@@ -145,7 +148,7 @@ module _ (r : Recipe) (n : Node) (m : Memories) (answers : List (List ℕ)) (aft
     pub shows-row : r .items ≡ first ++ (row a d ∷ others) → getD answers (itemsCount first + 1) [] ≡ shows r d
     shows-row e = told-at (itemsCount first + 1) ∙ row-shown r first others a d e
 
-  -- ---- a restart afterwards, with a passing self-test: normal mode, firmware started exactly if the image's sums agree
+  -- ---- a restart afterwards, with a passing self-test: normal mode, firmware started exactly if the image meets both conditions
 
   pub then-normal : (choices : Choices)
       → let restarted = restartStep (after .node) choices true (after .flash) (after .eeprom) in
@@ -156,3 +159,13 @@ module _ (r : Recipe) (n : Node) (m : Memories) (answers : List (List ℕ)) (aft
       let normal = restart-normal (withMode (tidied n) Waiting) choices (plainly r m .flash) (plainly r m .eeprom) (sizes .0 ∙ full .0)
       (sizes .1 ∙ full .1) (λ e. omega (arith, zero, e)) in
       rw (arrived .stands) (ap (λ (x : Restarted). x .number) normal, ap (λ (x : Restarted). x .node .mode) normal)
+
+  pub then-starts : (choices : Choices)
+      → Exactly (restartStep (after .node) choices true (after .flash) (after .eeprom) .node .mode ≡ Normal true)
+      (Starts (plainly r m .flash))
+  then-starts choices =
+      let normal = then-normal choices .1 in
+      let image = plainly r m .flash in (
+        λ e. starts-only-if image (let s : Normal (starts image) ≡ Normal true = sym normal ∙ e in cc) .1,
+        λ h. normal ∙ ap Normal (starts-if image (plain-sizes r m .0 ∙ full .0) h),
+      )
