@@ -11,12 +11,6 @@ use Rattle.memory_sum.proofs.firmware_sum.Reads as firmware-sum-reads
 use Rattle.memory_sum.proofs.stored_sum.{signature as stored-sum-signature}
 use Rattle.memory_sum.proofs.stored_sum.Kinds as stored-sum-kinds
 use Rattle.memory_sum.proofs.stored_sum.Reads as stored-sum-reads
-use Rattle.memory_sum.proofs.examine.{signature as examine-signature}
-use Rattle.memory_sum.proofs.examine.Kinds as examine-kinds
-use Rattle.memory_sum.proofs.examine.Reads as examine-reads
-use Rattle.memory_sum.proofs.firmware_starts.{signature as firmware-starts-signature}
-use Rattle.memory_sum.proofs.firmware_starts.Kinds as firmware-starts-kinds
-use Rattle.memory_sum.proofs.firmware_starts.Reads as firmware-starts-reads
 
 pub firmware-sum-tight : (κs : Lfts 1) (a : ArgsD firmware-sum-signature κs) (r r′ : ResD firmware-sum-signature κs)
     (s s′ : AtExit (endedOf 1 firmware-sum-kinds.ps firmware-sum-kinds.r) κs)
@@ -27,13 +21,3 @@ pub stored-sum-tight : (κs : Lfts 1) (a : ArgsD stored-sum-signature κs) (r r�
     (s s′ : AtExit (endedOf 1 stored-sum-kinds.ps stored-sum-kinds.r) κs)
     → stored-sum-reads.Post κs a r s → stored-sum-reads.Post κs a r′ s′ → r ≡ r′
 stored-sum-tight κs a r r′ s s′ p q = p ∙ sym q
-
-pub examine-tight : (κs : Lfts 1) (a : ArgsD examine-signature κs) (r r′ : ResD examine-signature κs)
-    (s s′ : AtExit (endedOf 1 examine-kinds.ps examine-kinds.r) κs)
-    → examine-reads.Post κs a r s → examine-reads.Post κs a r′ s′ → r ≡ r′
-examine-tight κs a r r′ s s′ p q = p ∙ sym q
-
-pub firmware-starts-tight : (κs : Lfts 1) (a : ArgsD firmware-starts-signature κs) (r r′ : ResD firmware-starts-signature κs)
-    (s s′ : AtExit (endedOf 1 firmware-starts-kinds.ps firmware-starts-kinds.r) κs)
-    → firmware-starts-reads.Post κs a r s → firmware-starts-reads.Post κs a r′ s′ → r ≡ r′
-firmware-starts-tight κs a r r′ s s′ p q = p ∙ sym q

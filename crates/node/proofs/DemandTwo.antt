@@ -9,7 +9,7 @@ use Prim.Native.Nat.{ℕ, _%_}
 use lib.ListN.{length, getD}
 use Rattle.base.specs.Parts.{sumOf}
 use Rattle.memory_address.specs.Ranges.{Exactly}
-use Rattle.memory_sum.specs.Plain.{Starts}
+use Rattle.memory_start.specs.Plain.{Starts}
 use Rattle.frame_rules.specs.Frame.{typeOf}
 use Rattle.frame_rules.specs.Wrapping.{wrappedOf, innerOf}
 use Rattle.node_rules.specs.declared.Pin.{Pin}

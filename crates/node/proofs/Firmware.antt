@@ -8,7 +8,7 @@ use mathlib.Core.Logic.{_⊎_}
 use Prim.Native.Nat.{ℕ, _+_, _/_, _%_}
 use lib.ListN.{length, getD}
 use Rattle.base.specs.Parts.{part, sumOf}
-use Rattle.memory_sum.specs.Plain.{FlagSays}
+use Rattle.memory_start.specs.Plain.{FlagSays}
 use Rattle.frame_rules.specs.Wrapping.{wrappedOf}
 use Rattle.node_rules.specs.declared.Pin.the-variants.{CanAndUart}
 use Rattle.node_rules.specs.declared.Mode.the-variants.{Normal}
@@ -36,9 +36,9 @@ module _ {n : Node} {flash eeprom : List ℕ} (fl : length flash ≡ 65536) (el 
       → n .mode ≡ Normal false → ToNode (n .plate) d2 d3
       → (flag sum : ℕ) → FlagSays flag flash → sum ≡ sumOf (part flash 0x001003 28669)
       → let x =
-          repliesWith
-          (withOwn (n .plate) 0x1F 0x11 (eightOf flag (sum / 65536 % 256) (sum / 256 % 256) (sum % 256) 0xFF 0xFF 0x03 0x04))
-          (tidied n) flash eeprom
+      repliesWith
+      (withOwn (n .plate) 0x1F 0x11 (eightOf flag (sum / 65536 % 256) (sum / 256 % 256) (sum % 256) 0xFF 0xFF 0x03 0x04))
+      (tidied n) flash eeprom
       in
       (r ≡ x .answer) × (flash′ ≡ flash) × (eeprom′ ≡ eeprom)
   can-frame-1F1 c mode to flag sum says e =
@@ -71,10 +71,10 @@ module _ {n : Node} {flash eeprom : List ℕ} (fl : length flash ≡ 65536) (el 
       → (started : Bool) → n .mode ≡ Normal started
       → ((b2 ≡ 0x50) × ToGroup (n .plate) d2 d3) ⊎ ((b2 ≡ 0x60) × ToNode (n .plate) d2 d3 × (started ≡ true))
       → let x =
-          repliesWith
-          (withOwn (n .plate) 0x10 (b2 + 1)
-          (eightOf 0x30 0x00 0x03 (getD flash 0x001013 0) (getD flash 0x001014 0) (getD flash 0x001015 0) 0x03 0x04))
-          (tidied n) flash eeprom
+      repliesWith
+      (withOwn (n .plate) 0x10 (b2 + 1)
+      (eightOf 0x30 0x00 0x03 (getD flash 0x001013 0) (getD flash 0x001014 0) (getD flash 0x001015 0) 0x03 0x04))
+      (tidied n) flash eeprom
       in
       (r ≡ x .answer) × (flash′ ≡ flash) × (eeprom′ ≡ eeprom)
   can-frame-105-106 b2 c started mode to =

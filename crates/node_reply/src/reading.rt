@@ -36,7 +36,7 @@ pub fn firmware_type(flash: &[u8]) -> [u8; 8]
 pub fn firmware_error(flash: &[u8]) -> [u8; 8]
     ensures { λ r. ⌜ r ≡ firmwareErrorData (now (flash .entry)) ⌝ }
 {
-    let found = memory_sum::examine(flash);
+    let found = memory_start::examine(flash);
     let sum = found.sum;
     let flags = found.flags;
     let high = (sum / 65536 % 256) as u8;

@@ -23,7 +23,7 @@ fn mode_reached(passed: bool, flash: &[u8], eeprom: &[u8]) -> Mode
         if flag == 0xFF {
             return Mode::Programming(Staged::Nothing);
         }
-        let started = memory_sum::firmware_starts(flash);
+        let started = memory_start::firmware_starts(flash);
         return Mode::Normal(started);
     }
     Mode::Error

@@ -11,9 +11,11 @@ use lib.ListN.{length, getD, set, replicate}
 use borrow.Author.Tests.{eq-eqb, ne-eqb}
 use Rattle.base.specs.Parts.{part, sumOf}
 use Rattle.base.proofs.Choice.{true-both}
-use Rattle.memory_sum.specs.Sum.{firmwareSum, flagByte}
-use Rattle.memory_sum.specs.Plain.{FlagSays}
-use Rattle.memory_sum.proofs.Laws.{worked-out, flag-only}
+use Rattle.memory_sum.specs.Sum.{firmwareSum}
+use Rattle.memory_start.specs.Start.{flagByte}
+use Rattle.memory_start.specs.Plain.{FlagSays}
+use Rattle.memory_sum.proofs.Laws.{worked-out}
+use Rattle.memory_start.proofs.Laws.{flag-only}
 use Rattle.frame_rules.specs.Frame.{typeOf}
 use Rattle.node_rules.specs.declared.HandledIn.the-variants.{InNormal}
 use Rattle.node_rules.specs.declared.Addressing.the-variants.{AsGroup, AsNode, AllZero, OwnNumbers}

@@ -10,9 +10,9 @@ use lib.ListN.{length, getD, replicate}
 use native.Mathlib.Omega.{arith}
 use borrow.Author.Tests.{eq-eqb, ne-eqb, eqb-false}
 use Rattle.memory_address.specs.Ranges.{Exactly}
-use Rattle.memory_sum.specs.Sum.{starts}
-use Rattle.memory_sum.specs.Plain.{Starts}
-use Rattle.memory_sum.proofs.Laws.{starts-if, starts-only-if}
+use Rattle.memory_start.specs.Start.{starts}
+use Rattle.memory_start.specs.Plain.{Starts}
+use Rattle.memory_start.proofs.Laws.{starts-if, starts-only-if}
 use Rattle.node_rules.specs.declared.Choices.{Choices}
 use Rattle.node_rules.specs.declared.Staged.the-variants.{Nothing}
 use Rattle.node_rules.specs.declared.Mode.the-variants.{Normal, Programming, Error}

@@ -19,7 +19,7 @@ use Rattle.memory_address.specs.declared.Address.the-variants.{Flash, Eeprom}
 use Rattle.memory_address.specs.declared.Ruled.{Ruled}
 use Rattle.memory_address.specs.declared.Ruled.the-variants.{Legal, Illegal}
 use Rattle.memory_address.proofs.Laws.{Within, ruled-within, legal-command, no-eeprom-erase}
-use Rattle.memory_sum.specs.Sum.{starts}
+use Rattle.memory_start.specs.Start.{starts}
 use Rattle.frame_rules.specs.Frame.{typeOf}
 use Rattle.frame_rules.specs.Wrapping.{innerOf, rightlyWrapped}
 use Rattle.node_rules.specs.declared.Staged.{Staged}

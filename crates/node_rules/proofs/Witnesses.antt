@@ -10,8 +10,8 @@ use lib.ListN.{length, replicate, length-replicate}
 use Rattle.base.specs.Parts.{patch}
 use Rattle.memory_address.specs.declared.Address.the-variants.{Flash, Eeprom}
 use Rattle.memory_address.specs.Rule.{ruled}
-use Rattle.memory_sum.specs.Plain.{Starts}
-use Rattle.memory_sum.proofs.Laws.{flag-says}
+use Rattle.memory_start.specs.Plain.{Starts}
+use Rattle.memory_start.proofs.Laws.{flag-says}
 use Rattle.node_rules.specs.declared.Pin.the-variants.{CanAndUart}
 use Rattle.node_rules.specs.declared.Staged.{Staged}
 use Rattle.node_rules.specs.declared.Staged.the-variants.{Nothing, Read, Write, Erase}

@@ -9,7 +9,8 @@ use Rattle.frame_rules.specs.Frame.{typeOf}
 use Rattle.memory_address.specs.Places.{eepromCell, description, atype, avers, fvers}
 use Rattle.memory_address.specs.declared.Address.{Address}
 use Rattle.memory_address.specs.declared.Address.the-variants.{Flash, Eeprom}
-use Rattle.memory_sum.specs.Sum.{firmwareSum, flagByte}
+use Rattle.memory_sum.specs.Sum.{firmwareSum}
+use Rattle.memory_start.specs.Start.{flagByte}
 use Rattle.node_rules.specs.declared.Mode.{Mode}
 use Rattle.node_rules.specs.declared.Mode.the-variants.{Normal, Programming, Error, Waiting}
 use Rattle.node_rules.specs.declared.Plate.{Plate}

@@ -5,7 +5,7 @@ use mathlib.Core.List.{List, []}
 use lib.Dec.{eqb}
 use lib.ListN.{getD}
 use Rattle.memory_address.specs.Places.{full, eepromCell, bootfl, modulePlace, groupPlace}
-use Rattle.memory_sum.specs.Sum.{starts}
+use Rattle.memory_start.specs.Start.{starts}
 use Rattle.node_rules.specs.declared.Staged.the-variants.{Nothing}
 use Rattle.node_rules.specs.declared.Mode.{Mode}
 use Rattle.node_rules.specs.declared.Mode.the-variants.{Normal, Programming, Error}

@@ -40,7 +40,7 @@ pub fn shown<'a>(name: &[u8], flash: &'a [u8], eeprom: &'a [u8], at: u32) {
 pub fn sums(name: &[u8], flash: &[u8]) {
     print::hex(name, memory_sum::firmware_sum(flash));
     print::hex(b", stored ", memory_sum::stored_sum(flash));
-    if memory_sum::firmware_starts(flash) {
+    if memory_start::firmware_starts(flash) {
         print::text(b", start\n");
     } else {
         print::text(b", no start\n");

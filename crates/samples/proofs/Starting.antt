@@ -10,9 +10,10 @@ use lib.Dec.{eqb}
 use lib.ListN.{length, take, getD, replicate, length-replicate}
 use Rattle.base.specs.Parts.{part, patch, sumOf, highFirst}
 use Rattle.base.proofs.Patched.{length-patch}
-use Rattle.memory_sum.specs.Sum.{sumsDiffer, cellsDiffer, flagsOf, flagByte}
-use Rattle.memory_sum.specs.Plain.{FlagSays}
-use Rattle.memory_sum.proofs.Laws.{stored-by-place, worked-out, flag-says, starts-by-flag}
+use Rattle.memory_start.specs.Start.{sumsDiffer, cellsDiffer, flagsOf, flagByte}
+use Rattle.memory_start.specs.Plain.{FlagSays}
+use Rattle.memory_sum.proofs.Laws.{stored-by-place, worked-out}
+use Rattle.memory_start.proofs.Laws.{flag-says, starts-by-flag}
 use Rattle.node_rules.specs.declared.Pin.the-variants.{CanOnly}
 use Rattle.node_rules.specs.declared.Mode.the-variants.{Normal, Waiting}
 use Rattle.node_rules.specs.declared.Restarted.{Restarted}
@@ -47,7 +48,7 @@ module _ (flash : List ℕ) (stored sum x y z : ℕ) (l : length flash ≡ 65536
         ap (λ (r : Restarted). r .node .mode)
             (restart-normal (node050A CanOnly Waiting []) (plain CanOnly) flash (replicate 1024 0) l zeros
             (λ e. let d : _≡_ {A = ℕ} 0 0xFF = e in omega arith))
-        ∙ ap Normal (starts-by-flag flash flag l found ∙ s),
+            ∙ ap Normal (starts-by-flag flash flag l found ∙ s),
         rw (← h, ← m, ← w)
             (ap (λ (t : Step). take 12 (t .answer .replies))
             (request-1F1 (node050A CanOnly (Normal false) []) flash (replicate 1024 0) l zeros false refl 0xF0 0xF0 0xFF 0xFF 0x05 0x0A 0xFF
@@ -60,7 +61,7 @@ unfolding flashWith
 with-length low place x y z h =
     let zeros : length (replicate {A = ℕ} 65536 0) ≡ 65536 = length-replicate {A = ℕ} 65536 0 in
     let once : length (patch (replicate 65536 0) 0x001002 (low ∷ [])) ≡ 65536 =
-        length-patch (replicate 65536 0) 0x001002 (low ∷ []) (omega arith) ∙ zeros
+    length-patch (replicate 65536 0) 0x001002 (low ∷ []) (omega arith) ∙ zeros
     in
     length-patch (patch (replicate 65536 0) 0x001002 (low ∷ [])) place (x ∷ y ∷ z ∷ []) (omega arith) ∙ once
 
@@ -69,15 +70,25 @@ unfolding flashWith patch
 starts-hold = (
   row-by (replicate 65536 0x00) 0 0 0x00 0x00 0x00 (length-replicate {A = ℕ} 65536 0x00) refl refl (refl, refl, refl)
       false 2 0x00 0x00 0x00 refl refl refl refl refl,
-  (row-by (replicate 65536 0xFF) 0xFFFFFF 0x6F8D03 0xFF 0xFF 0xFF (length-replicate {A = ℕ} 65536 0xFF) refl refl (refl, refl, refl)
-  false 3 0x6F 0x8D 0x03 refl refl refl refl refl,
-  (row-by (flashWith 0x33 0x001010 0x30 0x00 0x03) 0x33 0x33 0x30 0x00 0x03 (with-length 0x33 0x001010 0x30 0x00 0x03 (omega arith)) refl refl (refl, refl, refl)
-  true 0 0x00 0x00 0x33 refl refl refl refl refl,
-  (row-by (flashWith 0x32 0x001010 0x30 0x00 0x03) 0x32 0x33 0x30 0x00 0x03 (with-length 0x32 0x001010 0x30 0x00 0x03 (omega arith)) refl refl (refl, refl, refl)
-  false 1 0x00 0x00 0x33 refl refl refl refl refl,
-  (row-by (flashWith 0x34 0x001010 0x31 0x00 0x03) 0x34 0x34 0x31 0x00 0x03 (with-length 0x34 0x001010 0x31 0x00 0x03 (omega arith)) refl refl (refl, refl, refl)
-  false 2 0x00 0x00 0x34 refl refl refl refl refl,
-  (row-by (flashWith 0x33 0x001011 0x30 0x00 0x03) 0x33 0x33 0x00 0x30 0x00 (with-length 0x33 0x001011 0x30 0x00 0x03 (omega arith)) refl refl (refl, refl, refl)
-  false 2 0x00 0x00 0x33 refl refl refl refl refl,
-  tt))))),
+  (
+    row-by (replicate 65536 0xFF) 0xFFFFFF 0x6F8D03 0xFF 0xFF 0xFF (length-replicate {A = ℕ} 65536 0xFF) refl refl (refl, refl, refl)
+        false 3 0x6F 0x8D 0x03 refl refl refl refl refl,
+    (
+      row-by (flashWith 0x33 0x001010 0x30 0x00 0x03) 0x33 0x33 0x30 0x00 0x03 (with-length 0x33 0x001010 0x30 0x00 0x03 (omega arith)) refl refl (refl, refl, refl)
+          true 0 0x00 0x00 0x33 refl refl refl refl refl,
+      (
+        row-by (flashWith 0x32 0x001010 0x30 0x00 0x03) 0x32 0x33 0x30 0x00 0x03 (with-length 0x32 0x001010 0x30 0x00 0x03 (omega arith)) refl refl (refl, refl, refl)
+            false 1 0x00 0x00 0x33 refl refl refl refl refl,
+        (
+          row-by (flashWith 0x34 0x001010 0x31 0x00 0x03) 0x34 0x34 0x31 0x00 0x03 (with-length 0x34 0x001010 0x31 0x00 0x03 (omega arith)) refl refl (refl, refl, refl)
+              false 2 0x00 0x00 0x34 refl refl refl refl refl,
+          (
+            row-by (flashWith 0x33 0x001011 0x30 0x00 0x03) 0x33 0x33 0x00 0x30 0x00 (with-length 0x33 0x001011 0x30 0x00 0x03 (omega arith)) refl refl (refl, refl, refl)
+                false 2 0x00 0x00 0x33 refl refl refl refl refl,
+            tt,
+          ),
+        ),
+      ),
+    ),
+  ),
 )

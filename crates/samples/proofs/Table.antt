@@ -6,7 +6,8 @@ use Rattle.memory_address.specs.Rule.{ruled}
 use Rattle.frame_rules.specs.Frame.{identifierOf, headOf}
 use Rattle.frame_rules.specs.Wrapping.{wrappedOf, rightlyWrapped}
 use Rattle.memory_leaves.specs.Leaves.{flashCellsAfter}
-use Rattle.memory_sum.specs.Sum.{firmwareSum, storedSumOf, sumsDiffer, cellsDiffer, flagByte, starts}
+use Rattle.memory_sum.specs.Sum.{firmwareSum, storedSumOf}
+use Rattle.memory_start.specs.Start.{sumsDiffer, cellsDiffer, flagByte, starts}
 use Rattle.recipe.specs.Faults.{rulesAt, faultAt}
 use Rattle.recipe.specs.Reading.{readFrom, reading, recipeOf}
 use Rattle.recipe.specs.Frames.{itemFrames, itemsFrames, framesOf, joined, itemsCount, frameCount}

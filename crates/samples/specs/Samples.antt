@@ -8,7 +8,8 @@ use Rattle.memory_address.specs.Places.{blankFlash}
 use Rattle.memory_address.specs.Rule.{ruled, isLegal}
 use Rattle.frame_rules.specs.Frame.{identifierOf, headOf}
 use Rattle.memory_leaves.specs.Leaves.{flashCellsAfter}
-use Rattle.memory_sum.specs.Sum.{firmwareSum, storedSumOf, starts}
+use Rattle.memory_sum.specs.Sum.{firmwareSum, storedSumOf}
+use Rattle.memory_start.specs.Start.{starts}
 use Rattle.recipe.specs.Translation.{translated, translatedNumber, translatedValue, translatedOutput}
 use Rattle.samples.specs.Entries.{Sample, bytes, number, verdict, S1, S2, S3, S4, S5, S6, S7, S8, S9, S10, S11, Blank}
 use Rattle.samples.specs.Uart.{numbersOf, leftByLast}

@@ -6,8 +6,8 @@ use mathlib.Core.Bool.{true}
 use mathlib.Core.List.{List}
 use Prim.Native.Nat.{ℕ}
 use Rattle.memory_address.specs.Ranges.{Exactly}
-use Rattle.memory_sum.specs.Sum.{starts}
-use Rattle.memory_sum.specs.Plain.{Starts}
+use Rattle.memory_start.specs.Start.{starts}
+use Rattle.memory_start.specs.Plain.{Starts}
 use Rattle.node_rules.specs.declared.Mode.the-variants.{Normal}
 use Rattle.node_rules.specs.declared.Node.{Node}
 use Rattle.node_rules.specs.declared.Choices.{Choices}

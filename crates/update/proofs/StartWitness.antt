@@ -12,7 +12,7 @@ use lib.ListN.{replicate}
 use Rattle.base.specs.Parts.{Bytes, patch}
 use Rattle.base.proofs.Bytes.{bytes-append, bytes-replicate}
 use Rattle.memory_address.specs.Rule.{ruled}
-use Rattle.memory_sum.specs.Plain.{SumsAgree, Starts}
+use Rattle.memory_start.specs.Plain.{SumsAgree, Starts}
 use Rattle.node_rules.specs.declared.Mode.the-variants.{Normal}
 use Rattle.node_rules.specs.declared.Choices.{Choices}
 use Rattle.node_rules.specs.declared.Restarted.{Restarted}
@@ -42,7 +42,7 @@ module _ (x y z : ℕ) (bytes : Bytes (x ∷ y ∷ z ∷ [])) where
   unfolding startRecipe image ruled
   start-legal =
       let rest = bytes-append (replicate 13 0x00) (x ∷ y ∷ z ∷ replicate 45 0x00) (bytes-replicate 13 0x00 (lit< tt))
-          (bytes .0, (bytes .1 .0, (bytes .1 .1 .0, bytes-replicate 45 0x00 (lit< tt))))
+      (bytes .0, (bytes .1 .0, (bytes .1 .1 .0, bytes-replicate 45 0x00 (lit< tt))))
       in
       record {
         moduleByte = lit< tt;

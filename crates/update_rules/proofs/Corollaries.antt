@@ -12,9 +12,9 @@ use Rattle.base.specs.Parts.{part}
 use Rattle.base.proofs.Patched.{inside-patch}
 use Rattle.memory_address.specs.Places.{flashCells, eepromCells, eepromCell, bootfl}
 use Rattle.memory_address.specs.Ranges.{Exactly}
-use Rattle.memory_sum.specs.Sum.{starts}
-use Rattle.memory_sum.specs.Plain.{Starts}
-use Rattle.memory_sum.proofs.Laws.{starts-if, starts-only-if}
+use Rattle.memory_start.specs.Start.{starts}
+use Rattle.memory_start.specs.Plain.{Starts}
+use Rattle.memory_start.proofs.Laws.{starts-if, starts-only-if}
 use Rattle.node_rules.specs.declared.Mode.the-variants.{Normal, Waiting}
 use Rattle.node_rules.specs.declared.Node.{Node}
 use Rattle.node_rules.specs.declared.Choices.{Choices}

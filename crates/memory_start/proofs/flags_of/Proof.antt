@@ -1,7 +1,7 @@
--- `memory_sum::flags_of` meets its contract: a case for each value of the byte.
+-- `memory_start::flags_of` meets its contract: a case for each value of the byte.
 -- Assumes nothing.
-use Rattle.memory_sum.proofs.flags_of.Statement.{statement}
-use Rattle.memory_sum.proofs.flags_of.Tie as tie
+use Rattle.memory_start.proofs.flags_of.Statement.{statement}
+use Rattle.memory_start.proofs.flags_of.Tie as tie
 
 returns : tie.Need-returns
 returns c = simp (c .before .if1 .taken, c .if2 .taken)

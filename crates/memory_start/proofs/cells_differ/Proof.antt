@@ -1,4 +1,4 @@
--- `memory_sum::cells_differ` meets its contract: at each `return` the tests on the way say which of the three cells differs.
+-- `memory_start::cells_differ` meets its contract: at each `return` the tests on the way say which of the three cells differs.
 -- Assumes nothing.
 use mathlib.Core.Path.{_≡_}
 use mathlib.Core.Bool.{true, not}
@@ -8,9 +8,9 @@ use lib.Dec.{eqb}
 use lib.ListN.{getD}
 use borrow.Author.Tests.{eq-eqb, ne-eqb}
 use borrow.Author.Needs.{needs}
-use Rattle.memory_sum.specs.Sum.{cellsDiffer}
-use Rattle.memory_sum.proofs.cells_differ.Statement.{statement}
-use Rattle.memory_sum.proofs.cells_differ.Tie as tie
+use Rattle.memory_start.specs.Start.{cellsDiffer}
+use Rattle.memory_start.proofs.cells_differ.Statement.{statement}
+use Rattle.memory_start.proofs.cells_differ.Tie as tie
 
 -- what is known of the cells one behind the other, over any FLASH: the first is no 0x30; it is, and the second is no 0x00; both are
 module _ (flash : List ℕ) (x : ℕ) (first : x ≡ getD flash 0x001010 0) where

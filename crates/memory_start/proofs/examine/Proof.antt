@@ -1,9 +1,9 @@
--- `memory_sum::examine` meets its contract: the sum is worked out once, and compared with the stored one.
+-- `memory_start::examine` meets its contract: the sum is worked out once, and compared with the stored one.
 -- Assumes nothing.
 use borrow.Author.Needs.{needs}
-use Rattle.memory_sum.specs.Sum.{sumsDiffer, flagByte}
-use Rattle.memory_sum.proofs.examine.Statement.{statement}
-use Rattle.memory_sum.proofs.examine.Tie as tie
+use Rattle.memory_start.specs.Start.{sumsDiffer, flagByte}
+use Rattle.memory_start.proofs.examine.Statement.{statement}
+use Rattle.memory_start.proofs.examine.Tie as tie
 
 firmware-sum-requires : tie.Need-firmware-sum-requires
 firmware-sum-requires c κs = search needs

@@ -1,10 +1,10 @@
--- `memory_sum::firmware_starts` meets its contract: of a full FLASH the flag byte is compared with 0.
+-- `memory_start::firmware_starts` meets its contract: of a full FLASH the flag byte is compared with 0.
 -- Assumes nothing.
 use borrow.Author.Tests.{eq-eqb, ne-eqb}
 use borrow.Author.Needs.{needs}
-use Rattle.memory_sum.specs.Sum.{starts}
-use Rattle.memory_sum.proofs.firmware_starts.Statement.{statement}
-use Rattle.memory_sum.proofs.firmware_starts.Tie as tie
+use Rattle.memory_start.specs.Start.{starts}
+use Rattle.memory_start.proofs.firmware_starts.Statement.{statement}
+use Rattle.memory_start.proofs.firmware_starts.Tie as tie
 
 returns : tie.Need-returns
 unfolding starts

@@ -1,0 +1,33 @@
+-- Request A4: what the two flags say of a FLASH, and when firmware starts.
+use Prim.Native.Nat.{ℕ, _+_}
+use mathlib.Core.Bool.{Bool, false, _&&_, not, cond}
+use mathlib.Core.List.{List}
+use lib.Dec.{eqb}
+use lib.ListN.{length, getD}
+use Rattle.memory_address.specs.Places.{flashCells, threeCells}
+use Rattle.memory_sum.specs.Sum.{firmwareSum, storedSumOf}
+use Rattle.memory_start.specs.declared.Examined.{Examined}
+
+-- what the two flags say: "bit 0 of the flag byte says sums differ and bit 1 says the three cells differ"
+unfoldable pub sumsDiffer : List ℕ → Bool
+sumsDiffer flash = not (eqb (storedSumOf flash) (firmwareSum flash))
+
+unfoldable pub cellsDiffer : List ℕ → Bool
+cellsDiffer flash =
+    not
+    (eqb (getD flash threeCells 0) 0x30 && (eqb (getD flash (threeCells + 1) 0) 0x00 && eqb (getD flash (threeCells + 2) 0) 0x03))
+
+abbrev pub flagsOf : Bool → Bool → ℕ
+flagsOf sums cells = cond sums 1 0 + cond cells 2 0
+
+-- the flag byte of a FLASH as it is
+unfoldable pub flagByte : List ℕ → ℕ
+flagByte flash = flagsOf (sumsDiffer flash) (cellsDiffer flash)
+
+-- "firmware now starts exactly if the sums are equal and cells 0x001010 to 0x001012 are 30 00 03": no flag is set
+unfoldable pub starts : List ℕ → Bool
+starts flash = cond (eqb (length flash) flashCells) (eqb (flagByte flash) 0) false
+
+-- what is found of a FLASH: the worked-out sum and the flag byte
+abbrev pub examined : List ℕ → Examined
+examined flash = record { sum = firmwareSum flash; flags = flagByte flash }
