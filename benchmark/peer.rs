@@ -27,6 +27,7 @@ const DESCRIPTION: usize = 0x30;
 const STORED_SUM: usize = 0x1000;
 const FIRST_SUMMED: usize = 0x1003;
 const PAST_SUMMED: usize = 0x8000;
+const THREE_CELLS: usize = 0x1010;
 const ATYPE: usize = 0x1013;
 
 /// What is kept of 16 bytes of which so many count, as two numbers of eight.
@@ -144,6 +145,19 @@ fn firmware_sum(flash: &Flash) -> u32 {
     pieces.iter().map(|piece| short(piece)).sum::<u32>() + short(rest)
 }
 
+/// The stored sum.
+#[inline(always)]
+fn stored_sum(flash: &Flash) -> u32 {
+    let [high, middle, low] = flash[STORED_SUM..FIRST_SUMMED].try_into().unwrap();
+    u32::from_be_bytes([0, high, middle, low])
+}
+
+/// Whether the three cells that firmware needs to start are 30 00 03.
+#[inline(always)]
+fn cells_are_right(flash: &Flash) -> bool {
+    flash[THREE_CELLS..THREE_CELLS + 3] == [0x30, 0x00, 0x03]
+}
+
 /// The sum of bytes modulo 256.
 #[inline(always)]
 fn sum(bytes: &[u8; 12]) -> u8 {
@@ -220,9 +234,7 @@ impl Node {
         } else if eeprom[BOOTFL] == 0xFF {
             Mode::Programming
         } else {
-            let [high, middle, low] = flash[STORED_SUM..FIRST_SUMMED].try_into().unwrap();
-            let stored = u32::from_be_bytes([0, high, middle, low]);
-            if stored == firmware_sum(flash) {
+            if cells_are_right(flash) && stored_sum(flash) == firmware_sum(flash) {
                 Mode::Started
             } else {
                 Mode::Normal
@@ -554,9 +566,12 @@ impl Node {
                 replies.put(0, self.reply(kind, [0x30, 0x00, 0x03, 0xFF, id0, id1, id2, id3]));
             }
             0x106 if self.mode == Mode::Normal => {
-                let [_, high, middle, low] = firmware_sum(flash).to_be_bytes();
+                let sum = firmware_sum(flash);
+                let sums = (stored_sum(flash) != sum) as u8;
+                let flags = sums | (!cells_are_right(flash) as u8) << 1;
+                let [_, high, middle, low] = sum.to_be_bytes();
                 replies
-                    .put(0, self.reply(0x1F1, [0x01, high, middle, low, 0xFF, 0xFF, 0x03, 0x04]));
+                    .put(0, self.reply(0x1F1, [flags, high, middle, low, 0xFF, 0xFF, 0x03, 0x04]));
             }
             0x105 | 0x106 => {
                 let [atype, avers, fvers] = flash[ATYPE..ATYPE + 3].try_into().unwrap();

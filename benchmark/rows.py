@@ -15,7 +15,7 @@ TIMES = 400
 OWN = bytes([0x12, 0x34])
 DATA = bytes(range(0x41, 0x49))
 FLASH, EEPROM = 0x002000, 0xF00100
-STARTED, PROGRAMMING, WAITING = 1, 2, 4
+NOT_STARTED, STARTED, PROGRAMMING, WAITING = 0, 1, 2, 4
 NOTHING, READ, WRITE, ERASE = range(4)
 # The ways after noise.
 NEW, OLD = 1, 2
@@ -100,6 +100,8 @@ ROWS = [
     ('can_frame', 'refused 8 (illegal address)', [node()] + TIMES * can(address_frame(0x000800, WRITE))),
     ('can_frame', 'refused 9 (nothing staged)', [node()] + TIMES * can(PUT)),
     ('can_frame', '0x104 hardware type', [node(mode=STARTED)] + TIMES * can(frame(0x104, ASK))),
+    ('can_frame', '0x106, firmware started', [node(mode=STARTED)] + TIMES * can(frame(0x106, ASK))),
+    ('can_frame', '0x106, not started: 0x1F1', [node(mode=NOT_STARTED)] + 100 * can(frame(0x106, ASK))),
     ('can_frame', '0x10E description, two replies', [node(mode=STARTED)] + TIMES * can(frame(0x10E, ASK))),
     ('uart_byte', 'skipped byte', [node()] + TIMES * uart(b'\0')),
     ('uart_byte', 'refused 2 (CAN only)', [node(pin=0)] + TIMES * uart(b'\xAA')),
@@ -125,6 +127,7 @@ NOISE_PIECES = (0, 64)
 # Rows that are runs of their own: the call, what it is handed, the run.
 RUNS = [
     ('restart', 'with the firmware sum', 'restarts'),
+    ('restart', 'the three cells differ', 'restarts-other-cells'),
     ('translate', 'a recipe of 2,048 items', 'can'),
 ]
 
@@ -158,14 +161,17 @@ def streams(work):
     """Writes the streams."""
     begin, mark, end = record(0x08, 0xFF, 0xFF, bytes(range(1, 7))), record(0x01, 1, 1), record(0x09)
     rows = [r for _, _, events in ROWS for r in [*events, mark]]
-    # A node whose BOOTFL is 0x00, so that each restart works out the firmware sum.
-    restarts = [record(0x08, 0x5A, 0x00)] + 100 * [record(0x01, 1)]
+    # A node whose BOOTFL is 0x00, so that each restart asks whether firmware starts: it works out the sum where the three cells are right.
+    other_cells = [record(0x08, 0x5A, 0x00)] + 100 * [record(0x01, 1)]
+    cells = [record(0x07, (0x001010 + i).to_bytes(4, 'big'), value) for i, value in enumerate((0x30, 0x00, 0x03))]
+    restarts = other_cells[:1] + cells + other_cells[1:]
     # The recipe, on CAN and on UART: plain memories, pin CAN and UART, nothing staged, nothing held.
     recipe = open(f'{work}/recipe', 'rb').read()
     recipe = record(recipe[:14], 0, 0, 1) + recipe[64:]
     for name, stream in (
         ('rows', b''.join([begin, *rows, end])),
         ('restarts', b''.join([*restarts, end])),
+        ('restarts-other-cells', b''.join([*other_cells, end])),
         ('can', recipe[:1] + b'\0' + recipe[2:]),
         ('uart', recipe[:1] + b'\1' + recipe[2:]),
         *pieces(recipe),

@@ -53,14 +53,13 @@ pub fn examine(flash: &[u8]) -> Examined
     Examined { sum, flags }
 }
 
-// Whether firmware starts: the stored sum equals the firmware sum and the three cells are 30 00 03, so that no flag is set. Never where
-// FLASH has another length than 65,536.
+// Whether firmware starts: the three cells are 30 00 03 and the stored sum equals the firmware sum, so that no flag is set. Where the
+// cells differ nothing is added up. Never where FLASH has another length than 65,536.
 pub fn firmware_starts(flash: &[u8]) -> bool
     ensures { λ r. ⌜ r ≡ starts (now (flash .entry)) ⌝ }
 {
     if flash.len() != FLASH_CELLS {
         return false;
     }
-    let e = examine(flash);
-    e.flags == 0
+    !cells_differ(flash) && memory_sum::stored_sum(flash) == memory_sum::firmware_sum(flash)
 }
