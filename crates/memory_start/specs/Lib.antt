@@ -1,2 +1,3 @@
 pub mod Start
 pub mod Plain
+pub mod Internal

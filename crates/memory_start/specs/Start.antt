@@ -6,7 +6,6 @@ use lib.Dec.{eqb}
 use lib.ListN.{length, getD}
 use Rattle.memory_address.specs.Places.{flashCells, threeCells}
 use Rattle.memory_sum.specs.Sum.{firmwareSum, storedSumOf}
-use Rattle.memory_start.specs.declared.Examined.{Examined}
 
 -- what the two flags say: "bit 0 of the flag byte says sums differ and bit 1 says the three cells differ"
 unfoldable pub sumsDiffer : List ℕ → Bool
@@ -27,7 +26,3 @@ flagByte flash = flagsOf (sumsDiffer flash) (cellsDiffer flash)
 -- "firmware now starts exactly if the sums are equal and cells 0x001010 to 0x001012 are 30 00 03": no flag is set
 unfoldable pub starts : List ℕ → Bool
 starts flash = cond (eqb (length flash) flashCells) (eqb (flagByte flash) 0) false
-
--- what is found of a FLASH: the worked-out sum and the flag byte
-abbrev pub examined : List ℕ → Examined
-examined flash = record { sum = firmwareSum flash; flags = flagByte flash }

@@ -1,6 +1,7 @@
 // What the two flags say of a FLASH, and whether its firmware starts.
 ghost use mathlib.Core.Path.{_≡_};
-ghost use Rattle.memory_start.specs.Start.{cellsDiffer, flagsOf, examined, starts};
+ghost use Rattle.memory_start.specs.Start.{cellsDiffer, flagsOf, starts};
+ghost use Rattle.memory_start.specs.Internal.Examining.{examined};
 use memory_address::FLASH_CELLS;
 use memory_address::THREE_CELLS;
 
