@@ -7,15 +7,17 @@ use lib.ListN.{length, getD}
 use Rattle.memory_address.specs.Places.{flashCells, threeCells}
 use Rattle.memory_sum.specs.Sum.{firmwareSum, storedSumOf}
 
--- what the two flags say: "bit 0 of the flag byte says sums differ and bit 1 says the three cells differ"
+-- what the two flags say. "bit 0 of the flag byte says sums differ": the stored sum is not the firmware sum
 unfoldable pub sumsDiffer : List ℕ → Bool
 sumsDiffer flash = not (eqb (storedSumOf flash) (firmwareSum flash))
 
+-- "and bit 1 says the three cells differ": they are others than 30 00 03
 unfoldable pub cellsDiffer : List ℕ → Bool
 cellsDiffer flash =
     not
     (eqb (getD flash threeCells 0) 0x30 && (eqb (getD flash (threeCells + 1) 0) 0x00 && eqb (getD flash (threeCells + 2) 0) 0x03))
 
+-- both as one byte: bit 0 counts 1, bit 1 counts 2
 abbrev pub flagsOf : Bool → Bool → ℕ
 flagsOf sums cells = cond sums 1 0 + cond cells 2 0
 
