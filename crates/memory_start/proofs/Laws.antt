@@ -1,5 +1,5 @@
--- The laws of the flag byte and of a start: what the flag byte says, by place; when firmware starts, both ways. Each test of the definitions
--- is taken apart once, in what its bit says; a start is the flag byte 0.
+-- The laws of the flag byte and of a start: what the flag byte says, by place; when firmware starts, both ways. Each test of the
+-- definitions is taken apart once, in what its bit says; a start is the flag byte 0.
 -- Assumes nothing.
 use mathlib.Core.Path.{_≡_, _∙_, refl, sym, subst}
 use mathlib.Core.Bool.{Bool, true, false, _&&_, not, cond, false≢true}

@@ -110,7 +110,8 @@ module _ {n : Node} {pin : Pin} {passed : Bool} {flash eeprom : List ℕ} {r : R
       → Exactly (r .node .mode ≡ Normal true) ((passed ≡ true) × (getD eeprom 0 0 ≡ 0xFF → ⊥) × Starts flash)
   plain-restart-starts-exactly z =
       let full = done-lengths n (plain pin) passed flash eeprom r (plain-restart-number c) z in
-      exactly-said (ap (λ (y : Restarted). y .node .mode) (restart-said c)) (started-exactly n (plain pin) flash eeprom (full .0) (full .1) passed)
+      exactly-said (ap (λ (y : Restarted). y .node .mode) (restart-said c))
+      (started-exactly n (plain pin) flash eeprom (full .0) (full .1) passed)
 
 -- ---- UART and CAN agree
 

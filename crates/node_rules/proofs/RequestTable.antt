@@ -127,7 +127,8 @@ module _ (n : Node) (flash eeprom : List ℕ) (fl : length flash ≡ 65536) (el 
 
   -- 0x106 to the node, "with firmware not started the reply has type 0x1F1: .., worked-out sum high byte first, FF FF 03 04", and in front
   -- of the sum the flag byte: what it says is said of FLASH as it is now, whatever the restart found
-  pub request-1F1 : ToNode (n .plate) d2 d3 → started ≡ false → (flag sum : ℕ) → FlagSays flag flash → sum ≡ sumOf (part flash 0x001003 28669)
+  pub request-1F1 : ToNode (n .plate) d2 d3 → started ≡ false
+      → (flag sum : ℕ) → FlagSays flag flash → sum ≡ sumOf (part flash 0x001003 28669)
       → canStep n (0x10 ∷ 0x60 ∷ m ∷ g ∷ eightOf d0 d1 d2 d3 d4 d5 d6 d7) flash eeprom
       ≡ repliesWith
       (withOwn (n .plate) 0x1F 0x11 (eightOf flag (sum / 65536 % 256) (sum / 256 % 256) (sum % 256) 0xFF 0xFF 0x03 0x04))

@@ -42,7 +42,8 @@ firmwareData flash =
 -- it as request A4 has it, "as found when asked": of FLASH as it is then
 abbrev pub firmwareErrorData : List ℕ → List ℕ
 firmwareErrorData flash =
-    flagByte flash ∷ firmwareSum flash / 65536 % 256 ∷ firmwareSum flash / 256 % 256 ∷ firmwareSum flash % 256 ∷ 0xFF ∷ 0xFF ∷ 0x03 ∷ 0x04 ∷ []
+    flagByte flash ∷
+    firmwareSum flash / 65536 % 256 ∷ firmwareSum flash / 256 % 256 ∷ firmwareSum flash % 256 ∷ 0xFF ∷ 0xFF ∷ 0x03 ∷ 0x04 ∷ []
 
 abbrev pub hasStarted : Mode → Bool
 hasStarted (Normal started) = started

@@ -65,6 +65,19 @@ with-length low place x y z h =
     in
     length-patch (patch (replicate 65536 0) 0x001002 (low ∷ [])) place (x ∷ y ∷ z ∷ []) (omega arith) ∙ once
 
+-- such a row, whose sum is one byte
+module _ (low place x y z sum a b c : ℕ) (h : place ≤ 65533) where
+  abbrev cells : List ℕ
+  cells = flashWith low place x y z
+
+  with-row : highFirst (getD cells 0x001000 0) (getD cells 0x001001 0) (getD cells 0x001002 0) ≡ low
+      → sumOf (part cells 0x001003 28669) ≡ sum
+      → (getD cells 0x001010 0 ≡ a) × (getD cells 0x001011 0 ≡ b) × (getD cells 0x001012 0 ≡ c)
+      → (started : Bool) (flag : ℕ) → flagBy low sum a b c ≡ flag → eqb flag 0 ≡ started
+      → (sum / 65536 % 256 ≡ 0x00) × (sum / 256 % 256 ≡ 0x00) × (sum % 256 ≡ sum) → RowHolds (row cells started flag 0x00 0x00 sum)
+  with-row d e f started flag g s k =
+      row-by cells low sum a b c (with-length low place x y z h) d e f started flag 0x00 0x00 sum g s (k .0) (k .1) (k .2)
+
 pub starts-hold : AllHold starting
 unfolding flashWith patch
 starts-hold = (
@@ -74,17 +87,13 @@ starts-hold = (
     row-by (replicate 65536 0xFF) 0xFFFFFF 0x6F8D03 0xFF 0xFF 0xFF (length-replicate {A = ℕ} 65536 0xFF) refl refl (refl, refl, refl)
         false 3 0x6F 0x8D 0x03 refl refl refl refl refl,
     (
-      row-by (flashWith 0x33 0x001010 0x30 0x00 0x03) 0x33 0x33 0x30 0x00 0x03 (with-length 0x33 0x001010 0x30 0x00 0x03 (omega arith)) refl refl (refl, refl, refl)
-          true 0 0x00 0x00 0x33 refl refl refl refl refl,
+      with-row 0x33 0x001010 0x30 0x00 0x03 0x33 0x30 0x00 0x03 (omega arith) refl refl (refl, refl, refl) true 0 refl refl (refl, refl, refl),
       (
-        row-by (flashWith 0x32 0x001010 0x30 0x00 0x03) 0x32 0x33 0x30 0x00 0x03 (with-length 0x32 0x001010 0x30 0x00 0x03 (omega arith)) refl refl (refl, refl, refl)
-            false 1 0x00 0x00 0x33 refl refl refl refl refl,
+        with-row 0x32 0x001010 0x30 0x00 0x03 0x33 0x30 0x00 0x03 (omega arith) refl refl (refl, refl, refl) false 1 refl refl (refl, refl, refl),
         (
-          row-by (flashWith 0x34 0x001010 0x31 0x00 0x03) 0x34 0x34 0x31 0x00 0x03 (with-length 0x34 0x001010 0x31 0x00 0x03 (omega arith)) refl refl (refl, refl, refl)
-              false 2 0x00 0x00 0x34 refl refl refl refl refl,
+          with-row 0x34 0x001010 0x31 0x00 0x03 0x34 0x31 0x00 0x03 (omega arith) refl refl (refl, refl, refl) false 2 refl refl (refl, refl, refl),
           (
-            row-by (flashWith 0x33 0x001011 0x30 0x00 0x03) 0x33 0x33 0x00 0x30 0x00 (with-length 0x33 0x001011 0x30 0x00 0x03 (omega arith)) refl refl (refl, refl, refl)
-                false 2 0x00 0x00 0x33 refl refl refl refl refl,
+            with-row 0x33 0x001011 0x30 0x00 0x03 0x33 0x00 0x30 0x00 (omega arith) refl refl (refl, refl, refl) false 2 refl refl (refl, refl, refl),
             tt,
           ),
         ),

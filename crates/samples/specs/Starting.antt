@@ -21,7 +21,8 @@ modeOver flash = restartStep (node050A CanOnly Waiting []) (plain CanOnly) true 
 
 -- its reply to 0x106 over a FLASH, where its firmware has not started
 abbrev pub replyOver : List ℕ → List ℕ
-replyOver flash = take 12 (canStep (node050A CanOnly (Normal false) []) (asking 0x10 0x60 0x05 0x0A) flash (replicate 1024 0) .answer .replies)
+replyOver flash =
+    take 12 (canStep (node050A CanOnly (Normal false) []) (asking 0x10 0x60 0x05 0x0A) flash (replicate 1024 0) .answer .replies)
 
 -- a FLASH; whether it starts; the flag byte, and the worked-out sum high byte first
 pub data Row : Type 0 where

@@ -1,4 +1,5 @@
--- `memory_start::firmware_starts` meets its contract: of a full FLASH no flag is set exactly if the cells don't differ and the sums are equal.
+-- `memory_start::firmware_starts` meets its contract: of a full FLASH no flag is set exactly if the cells don't differ and the sums are
+-- equal.
 -- Assumes nothing.
 use mathlib.Core.Path.{_≡_, _∙_, refl}
 use mathlib.Core.Bool.{Bool, true, false, _&&_, not}
