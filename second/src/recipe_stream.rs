@@ -85,7 +85,7 @@ impl Begin {
 }
 
 /// A number of four bytes, high byte first.
-fn number(bytes: &[u8]) -> usize {
+pub fn number(bytes: &[u8]) -> usize {
     bytes[..4].iter().fold(0, |number, &byte| number << 8 | byte as usize)
 }
 
