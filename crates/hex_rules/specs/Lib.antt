@@ -5,3 +5,4 @@ pub mod Checks
 pub mod Recipe
 pub mod Converting
 pub mod Printing
+pub mod Holding

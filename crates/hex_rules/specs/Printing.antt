@@ -2,14 +2,14 @@
 -- half, and the end record last.
 use Prim.Native.Nat.{ℕ, _+_, _-_, _*_, _/_, _%_, _≤_, _<_}
 use mathlib.Core.Path.{_≡_}
-use mathlib.Core.Bool.{false, cond}
+use mathlib.Core.Bool.{true, false, cond}
 use mathlib.Core.List.{List, [], _∷_, _++_}
 use lib.Dec.{ltb}
 use lib.ListN.{length}
 use Rattle.base.specs.Parts.{Bytes, sumOf}
 use Rattle.hex_rules.specs.Text.{lf}
 use Rattle.hex_rules.specs.Record.{colon}
-use Rattle.hex_rules.specs.Cells.{Cell, cellsFrom, someOutside, someTwice}
+use Rattle.hex_rules.specs.Cells.{Cell, cellsFrom, legalCell, givenAt, someOutside, someTwice}
 
 -- bytes from a place on
 pub record Run : Type 0 where
@@ -70,3 +70,17 @@ Printable before (r ∷ rs) =
     × (someOutside (cellsFrom (r .start) (r .bytes)) ≡ false)
     × (someTwice before (cellsFrom (r .start) (r .bytes)) ≡ false)
     × Printable (before ++ cellsFrom (r .start) (r .bytes)) rs
+
+-- each cell as a run of its own
+abbrev pub singly : List Cell → List Run
+singly [] = []
+singly (c ∷ cs) = record { start = c .place; bytes = c .byte ∷ [] } ∷ singly cs
+
+-- cells of the legal areas behind given ones, each given once
+abbrev pub EachOnce : List Cell → List Cell → Type 0
+EachOnce before [] = Unit {0}
+EachOnce before (c ∷ cs) =
+    (legalCell (c .place) ≡ true)
+    × (c .byte < 256)
+    × (givenAt before (c .place) ≡ false)
+    × EachOnce (before ++ (c ∷ [])) cs
