@@ -12,6 +12,19 @@ mod event;
 mod explain;
 mod frames;
 mod generate;
+mod hex;
+mod hex_coverage;
+mod hex_damage;
+mod hex_faults;
+mod hex_file;
+mod hex_files;
+mod hex_good;
+mod hex_good_rows;
+mod hex_line_rows;
+#[cfg(test)]
+mod hex_samples;
+mod hex_stream;
+mod hex_texts;
 mod memory;
 mod node;
 mod node_record;
@@ -21,6 +34,7 @@ mod piece_coverage;
 #[cfg(test)]
 mod piece_samples;
 mod random;
+mod read_hex;
 mod recipe;
 mod recipe_coverage;
 mod recipe_files;
@@ -61,7 +75,12 @@ second ask-recipes old|new > stream
 second apply-recipes < stream
 second recipe-coverage < stream
 second apply FILE
-second recipe-files SEED COUNT DIR";
+second recipe-files SEED COUNT DIR
+second hex-texts SEED COUNT > stream
+second read-hex < stream
+second hex-coverage < stream
+second hex FILE MODULE GROUP > recipe
+second hex-files SEED COUNT DIR";
 
 /// All of standard input.
 fn input() -> io::Result<Vec<u8>> {
@@ -139,6 +158,26 @@ fn run(arguments: &[&str], out: &mut impl Write) -> io::Result<Option<String>> {
             recipe_files::recipe_files(seed, count, folder).map(|_| None)
         }
         ["recipe-coverage"] => Ok(complaint(recipe_coverage::recipe_coverage(&input()?, out)?)),
+        ["hex-texts", seed, count] => {
+            hex_texts::hex_texts(number(seed)?, number(count)? as usize, out).map(|_| None)
+        }
+        ["read-hex"] => read_hex::read_hex(&input()?, out),
+        ["hex-coverage"] => Ok(complaint(hex_coverage::hex_coverage(&input()?, out)?)),
+        ["hex", file, module, group] => {
+            let byte = |text: &str| {
+                let wrong = || io::Error::other(format!("not a number of one byte: {text}"));
+                hex_file::number(text).ok_or_else(wrong)
+            };
+            let (module, group) = (byte(module)?, byte(group)?);
+            match hex_file::recipe(&hex_file::text(file)?, module, group) {
+                Ok(recipe) => out.write_all(&recipe).map(|_| None),
+                Err(line) => Ok(Some(line)),
+            }
+        }
+        ["hex-files", seed, count, folder] => {
+            let (seed, count) = (number(seed)?, number(count)? as usize);
+            hex_files::hex_files(seed, count, folder).map(|_| None)
+        }
         _ => Ok(Some(USAGE.to_string())),
     }
 }

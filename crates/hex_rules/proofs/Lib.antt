@@ -1,1 +1,4 @@
-pub mod Examples
+pub mod Reading
+pub mod LinesOfText
+pub mod PrintedLine
+pub mod RoundTrip
