@@ -27,9 +27,10 @@ const PAIRS: [(u8, u8); 13] = [
 ];
 
 /// Rows of refusals that the number and the line alone don't tell.
-const OTHERS: [&str; 14] = [
+const OTHERS: [&str; 15] = [
     "33 before 34, the cell given twice first",
     "33 before 34, the cell outside first",
+    "34 in a text of all cells",
     "35 missing, empty text",
     "35 missing, the last line ends in LF",
     "35 missing, the last line ends in CR LF",
@@ -89,8 +90,13 @@ fn bad_line(lines: &[Line], index: usize) -> Vec<String> {
     if number == OUTSIDE && line.faults.contains(&TWICE) {
         let outside = (line.first()..line.behind()).position(|cell| !inside(cell));
         let twice_first = outside.is_some_and(|outside| line.again[0].at < outside);
-        let first = if twice_first { "the cell given twice first" } else { "the cell outside first" };
+        let first =
+            if twice_first { "the cell given twice first" } else { "the cell outside first" };
         rows.push(format!("33 before 34, {first}"));
+    }
+    let cells: usize = lines.iter().filter(|line| line.gives()).map(|line| line.data().len()).sum();
+    if number == TWICE && cells == 61_440 + 1_024 {
+        rows.push("34 in a text of all cells".to_string());
     }
     let further: Vec<u8> =
         lines[index + 1..].iter().filter_map(|line| line.faults.first().copied()).collect();

@@ -8,6 +8,8 @@ use std::collections::HashSet;
 /// Where in a text a line is put.
 #[derive(Clone, Copy, PartialEq, Eq)]
 pub enum Place {
+    /// In the place of all lines.
+    Only,
     First,
     Middle,
     /// Before the line of this index.
@@ -43,7 +45,8 @@ pub struct Faults {
     pub cells: Cells,
 }
 
-pub const NO_FAULTS: Faults = Faults { form: None, sum: None, other_type: false, cells: Cells::Fine };
+pub const NO_FAULTS: Faults =
+    Faults { form: None, sum: None, other_type: false, cells: Cells::Fine };
 
 /// How many ways `form_fault` and `sum_fault` know.
 pub const FORMS: usize = 27;
@@ -63,6 +66,10 @@ const BORDERS: [u32; 4] = [0x001000, 0x010000, 0xF00000, 0xF00400];
 /// Puts a line at a place of a draft, under an upper half where that matters: with a type 04 record
 /// before it where that is needed, and one behind it that takes it back.
 fn put(random: &mut Random, draft: &mut Draft, place: Place, upper: Option<u16>, line: Line) {
+    if place == Place::Only {
+        draft.lines = vec![line];
+        return;
+    }
     if draft.lines.len() == 1 && place != Place::First {
         draft.lines.insert(0, Line::Record(empty_record(random)));
     }
@@ -88,7 +95,7 @@ fn put(random: &mut Random, draft: &mut Draft, place: Place, upper: Option<u16>,
             }
             draft.lines.splice(at..at, lines);
         }
-        Place::Last => {
+        Place::Only | Place::Last => {
             lines.push(line);
             draft.lines.splice(at.., lines);
         }
@@ -158,8 +165,7 @@ fn outside_cells(random: &mut Random, first_line: bool) -> (u32, usize) {
     let border = if first_line { 0x001000 } else { random.pick(&BORDERS) };
     let begins = border == 0x001000 || border == 0xF00000;
     let beside = if begins { border - 1 } else { border };
-    let (before, behind) =
-        (random.pick(&[1, 1, 2, 16]), random.pick(&[1, 1, 2, 16, 200]));
+    let (before, behind) = (random.pick(&[1, 1, 2, 16]), random.pick(&[1, 1, 2, 16, 200]));
     let far = random.next() | 0x0002_0000;
     match random.below(if first_line { 4 } else { 12 }) {
         0 => (beside, 1),
@@ -203,7 +209,8 @@ fn twice_record(random: &mut Random, draft: &mut Draft) -> (usize, Option<u16>, 
         2 => (first + at as u32, vec![data[at]]),
         3 => (first + at as u32, vec![!data[at]]),
         4 | 5 if free(last + 1) => {
-            let length = (1..length as u32).find(|&more| !free(last + more)).unwrap_or(length as u32);
+            let length =
+                (1..length as u32).find(|&more| !free(last + more)).unwrap_or(length as u32);
             (last, some(random, length as usize))
         }
         6 | 7 if free(first.wrapping_sub(1)) => {
@@ -247,7 +254,13 @@ fn other_length(record: &Record, length: u8) -> Vec<u8> {
 
 /// The line of a record with bad digits or lengths, in one of so many ways; with `wrong_sum` the sum
 /// is bad too where there is one.
-fn form_fault(random: &mut Random, draft: &Draft, record: &Record, way: usize, wrong_sum: bool) -> Vec<u8> {
+fn form_fault(
+    random: &mut Random,
+    draft: &Draft,
+    record: &Record,
+    way: usize,
+    wrong_sum: bool,
+) -> Vec<u8> {
     let mut record = record.clone();
     let length = record.data.len();
     match way {
@@ -329,10 +342,12 @@ fn sum_fault(random: &mut Random, record: &Record, way: usize) -> Vec<u8> {
 /// Puts a line with these faults at a place of a draft.
 pub fn put_faults(random: &mut Random, draft: &mut Draft, faults: Faults, place: Place) {
     let mut place = place;
+    // An only line and a first one are under the upper half 0.
+    let first_line = [Place::Only, Place::First].contains(&place);
     let (upper, mut record) = match faults.cells {
         Cells::Fine if faults.other_type => unused_record(random, draft),
         Cells::Fine => fine_record(random, draft),
-        Cells::Outside => outside_record(random, place == Place::First),
+        Cells::Outside => outside_record(random, first_line),
         Cells::Twice => {
             let (index, upper, record) = twice_record(random, draft);
             if place == Place::Middle && random.chance(50) {
@@ -343,7 +358,7 @@ pub fn put_faults(random: &mut Random, draft: &mut Draft, faults: Faults, place:
         Cells::OutsideAndTwice => outside_and_twice_record(random, draft),
     };
     // Before the first line no cell is given.
-    if place == Place::First && matches!(faults.cells, Cells::Twice | Cells::OutsideAndTwice) {
+    if first_line && matches!(faults.cells, Cells::Twice | Cells::OutsideAndTwice) {
         place = Place::Last;
     }
     if faults.other_type {
@@ -362,7 +377,7 @@ pub fn put_faults(random: &mut Random, draft: &mut Draft, faults: Faults, place:
         (None, None) => Line::Record(record),
     };
     put(random, draft, place, upper, line);
-    let last = [Place::Last, Place::BehindEnd].contains(&place);
+    let last = [Place::Only, Place::Last, Place::BehindEnd].contains(&place);
     if faults.form == Some(CR_AT_END) && last && random.chance(60) {
         draft.last = b"";
     }

@@ -73,3 +73,29 @@ pub fn hex_files(seed: u64, count: usize, folder: &str) -> io::Result<()> {
     }
     Ok(())
 }
+
+#[cfg(test)]
+mod tests {
+    use super::*;
+    use crate::hex_file::recipe;
+
+    /// The files at the limits give what they are there for.
+    #[test]
+    fn at_the_limits() {
+        let files = limits(&mut Random::new(1));
+        let told = |index: usize| recipe(&files[index], 0x05, 0x0A).map(|recipe| recipe.len());
+        let refused = |line: &str| Err(line.to_string());
+        assert_eq!(told(0), refused("35 1"));
+        assert_eq!(told(1), Ok(4));
+        assert_eq!((told(2), told(3)), (Ok(66_820), Ok(66_820)));
+        assert_eq!((files[4].len(), told(4)), (MOST_BYTES, Ok(4)));
+        assert_eq!((files[5].len(), told(5)), (MOST_BYTES + 1, refused("long")));
+        assert_eq!((files[6].len(), told(6)), (MOST_BYTES, Ok(66_820)));
+        assert_eq!((files[7].len(), told(7)), (MOST_BYTES, refused("31 87381")));
+        assert_eq!((files[8].len(), told(8)), (MOST_BYTES, refused("35 87382")));
+        assert_eq!((files[9].len(), told(9)), (MOST_BYTES, refused("35 87381")));
+        assert_eq!((files[10].len(), told(10)), (MOST_BYTES + 1, refused("long")));
+        assert_eq!((told(11), told(12)), (refused("30 1"), refused("long")));
+        assert_eq!((told(13), told(14)), (refused("30 1"), refused("30 1")));
+    }
+}

@@ -99,7 +99,7 @@ impl Draft {
         self.lines[..index].iter().rev().find_map(upper).unwrap_or(0)
     }
 
-    /// The data records that give cells: index, first cell, data.
+    /// The data records that give legal cells: index, first cell, data.
     pub fn given(&self) -> Vec<(usize, u32, Vec<u8>)> {
         let mut upper = 0;
         let mut given = Vec::new();
@@ -109,7 +109,11 @@ impl Draft {
                     upper = u32::from_be_bytes([data[0], data[1], 0, 0]);
                 }
                 Line::Record(Record { kind: DATA, address, data }) if !data.is_empty() => {
-                    given.push((index, upper + *address as u32, data.clone()));
+                    let first = upper + *address as u32;
+                    let last = first as u64 + data.len() as u64 - 1;
+                    if legal(first as u64) && legal(last) {
+                        given.push((index, first, data.clone()));
+                    }
                 }
                 _ => {}
             }

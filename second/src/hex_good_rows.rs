@@ -100,10 +100,10 @@ fn outermost_row(cell: u64) -> String {
 }
 
 /// The cells of a text by their blocks and rows: for the first cell of each, the places of those that
-/// are given and the lines that give them.
+/// are given, and which of the lines that give cells give these.
 fn touched(lines: &[Line]) -> HashMap<u64, (Vec<u64>, Vec<usize>)> {
     let mut touched: HashMap<u64, (Vec<u64>, Vec<usize>)> = HashMap::new();
-    for (index, line) in lines.iter().enumerate().filter(|(_, line)| line.gives()) {
+    for (index, line) in lines.iter().filter(|line| line.gives()).enumerate() {
         for cell in line.first()..line.behind() {
             let within = cell % if cell <= 0xFFFF { 64 } else { 8 };
             let (places, by) = touched.entry(cell - within).or_default();
@@ -144,9 +144,8 @@ fn features(text: &[u8], lines: &[Line]) -> [bool; 50] {
     let empty = |line: &&Line| line.data().is_empty();
     let border = |line: &&Line, unit: u64| line.first() / unit != (line.behind() - 1) / unit;
     let flash = |line: &&Line| line.first() <= 0xFFFF;
-    let whole = |line: &&Line, unit: u64| {
-        line.first() % unit == 0 && line.data().len() as u64 == unit
-    };
+    let whole =
+        |line: &&Line, unit: u64| line.first() % unit == 0 && line.data().len() as u64 == unit;
     let in_giving = |holds: &dyn Fn(&&Line) -> bool| giving.iter().any(|line| holds(line));
     let touched = touched(lines);
     let block = |first: u64| first <= 0xFFFF;
@@ -168,8 +167,7 @@ fn features(text: &[u8], lines: &[Line]) -> [bool; 50] {
         of_kind(UPPER).next().is_none(),
         of_kind(UPPER).any(|line| said(&line)),
         lines[0].kind() == Some(UPPER) && said(&&lines[0]),
-        kinds.windows(3).any(|three| three == [false, true, false])
-            || kinds.windows(2).any(|two| two == [true, false]) && kinds[0] == false,
+        kinds.first() == Some(&false) && kinds.windows(2).any(|two| two == [true, false]),
         of_kind(UPPER).any(|line| ![[0, 0], [0, 0xF0]].iter().any(|upper| line.data() == upper)),
         of_kind(UPPER).any(|line| line.address() != 0),
         of_kind(END_RECORD).any(|line| line.address() != 0),
@@ -188,14 +186,7 @@ fn features(text: &[u8], lines: &[Line]) -> [bool; 50] {
         in_giving(&|line| !flash(line) && whole(line, 8)),
         in_giving(&|line| line.first() >= 0xFF00 && line.behind() == 0x10000),
         in_touched(&|first, _, by| block(first) && by.len() > 1),
-        in_touched(&|first, _, by| {
-            let between = |pair: &[usize]| {
-                let others = giving.iter().filter(|line| line.first() / 64 != first / 64);
-                let index = |line: &&Line| lines.iter().position(|other| std::ptr::eq(other, *line));
-                others.filter_map(|line| index(line)).any(|at| pair[0] < at && at < pair[1])
-            };
-            block(first) && by.len() < 5 && lines.len() < 60 && by.windows(2).any(between)
-        }),
+        in_touched(&|first, _, by| block(first) && by.windows(2).any(|pair| pair[0] + 1 < pair[1])),
         in_touched(&|first, _, by| !block(first) && by.len() > 1),
         in_touched(&|first, places, _| block(first) && places == [0]),
         in_touched(&|first, places, _| block(first) && places == [63]),

@@ -87,7 +87,8 @@ const TWICES: [&str; 11] = [
     "in EEPROM",
     "BOOTFL",
 ];
-const ENDS: [&str; 4] = ["a second end", "a record with data", "a type 04", "a record without data"];
+const ENDS: [&str; 4] =
+    ["a second end", "a record with data", "a type 04", "a record without data"];
 
 /// Every row of a line that a stream ought to reach.
 pub fn wanted() -> Vec<String> {

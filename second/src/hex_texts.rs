@@ -1,6 +1,6 @@
 //! Makes streams of HEX texts: good ones of every kind, and damaged ones.
 
-use crate::hex;
+use crate::hex::{self, MOST_RECIPE};
 use crate::hex_damage::*;
 use crate::hex_good::{full, good, many_lines, scattered, Draft};
 use crate::hex_stream::{HexTrial, MOST_ROOM, MOST_TEXT};
@@ -9,7 +9,7 @@ use std::io::{self, Write};
 
 /// One fault at a line of any place.
 fn one_fault(random: &mut Random, draft: &mut Draft, faults: Faults) {
-    let place = random.pick(&PLACES);
+    let place = if random.chance(4) { Place::Only } else { random.pick(&PLACES) };
     put_faults(random, draft, faults, place);
 }
 
@@ -58,12 +58,9 @@ fn faults_at_some_lines(random: &mut Random, draft: &mut Draft) {
 /// A good draft, now and then a long one.
 fn any_good(random: &mut Random, index: usize) -> Draft {
     match index {
-        _ if index % 2_500 == 20 => full(random, 16),
-        _ if index % 1_500 == 40 => scattered(random),
-        _ if index % 2_000 == 60 => {
-            let count = random.pick(&[256, 300, 700, 5_000]);
-            many_lines(random, count)
-        }
+        _ if index % 2_500 == 20 || index % 5_000 == 2_532 => full(random, 16),
+        _ if index % 1_500 == 40 || index % 5_000 == 1_512 => scattered(random),
+        _ if index % 2_000 == 60 => many_lines(random, [300, 5_000, 256, 700][index / 2_000 % 4]),
         _ => good(random),
     }
 }
@@ -73,8 +70,8 @@ pub fn text(random: &mut Random, index: usize) -> Vec<u8> {
     let mut draft = any_good(random, index);
     let turn = index / 20;
     match index % 20 {
-        0 if index % 2_000 == 60 && turn / 100 % 2 == 1 => end_fault(random, &mut draft, 0),
-        0..=6 => {}
+        0 if index % 4_000 == 2_060 => end_fault(random, &mut draft, 0),
+        0..=5 => {}
         7 | 8 => {
             let form = Some((2 * turn + index % 2) % FORMS);
             one_fault(random, &mut draft, Faults { form, ..NO_FAULTS });
@@ -91,6 +88,7 @@ pub fn text(random: &mut Random, index: usize) -> Vec<u8> {
         15 => faults_at_some_lines(random, &mut draft),
         16 => mended(random, &mut draft),
         _ => {
+            // Index 6 and the last three of twenty.
             let text = draft.written(random);
             return mutated(random, text);
         }
@@ -130,7 +128,10 @@ pub fn hex_texts(seed: u64, count: usize, out: &mut impl Write) -> io::Result<()
                 random.pick(&[0, 4, 72, 140, any])
             }
         };
-        let room = room(&mut random, needed);
+        let room = match needed {
+            MOST_RECIPE => [needed, needed - 1, MOST_ROOM, 0][index / 500 % 4],
+            _ => room(&mut random, needed),
+        };
         HexTrial { module, group, room, text }.write(out)?;
     }
     Ok(())

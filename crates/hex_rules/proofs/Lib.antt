@@ -2,3 +2,11 @@ pub mod Reading
 pub mod LinesOfText
 pub mod PrintedLine
 pub mod RoundTrip
+pub mod LegalCells
+pub mod GivenCells
+pub mod EachItem
+pub mod MadeLegal
+pub mod PlainUpward
+pub mod PlainCells
+pub mod Once
+pub mod Upward

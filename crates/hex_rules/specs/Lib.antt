@@ -6,3 +6,4 @@ pub mod Recipe
 pub mod Converting
 pub mod Printing
 pub mod Holding
+pub mod Touching

@@ -1,23 +1,23 @@
+-- `hex_put::item::size_of` meets its contract, by whether the item is touched.
+-- Assumes nothing.
+use mathlib.Core.Path.{_∙_, sym}
+use Rattle.hex_put.proofs.Putting.{touched-size, untouched-size}
+use native.Mathlib.Omega.{arith}
+use borrow.Author.Needs.{needs}
 use borrow.Author.Needs.{needs}
 use Rattle.hex_put.proofs.item.size_of.Statement.{statement}
 use Rattle.hex_put.proofs.item.size_of.Tie as tie
-use Rattle.hex_put.proofs.item.size_of.Reads as reads
-use Rattle.hex_put.proofs.item.size_of.Lts as lts
 use Rattle.hex_put.proofs.item.is_touched.Reads as is-touched-reads
 
--- src/item.rt:56:8
 is-touched-requires : tie.Need-is-touched-requires
 is-touched-requires c κs = search needs
 
--- src/item.rt:57:16
 add-result : tie.Need-add-result
 add-result c = search needs
 
--- src/item.rt:57:9
 returns : tie.Need-returns
-returns c = ?
+returns c = (sym (touched-size 0 0 (c .before .before .before .args .places .now) (sym (c .before .is-touched .ensures) ∙ c .if1 .taken)), omega arith)
 
--- src/item.rt:52:1
 returns-2 : tie.Need-returns-2
 returns-2 c = search needs
 
