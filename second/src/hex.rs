@@ -76,8 +76,9 @@ fn lines(text: &[u8]) -> Vec<&[u8]> {
     lines
 }
 
-/// The record of a line: a colon, then pairs of digits for length, address, type, data and sum. None
-/// where a digit or a length is bad, also a type 01 with data and a type 04 without exactly two bytes.
+/// The record of a line: a colon, then pairs of digits for length, address, type, data and sum.
+/// None where a digit or a length is bad, also a type 01 with data and a type 04 without exactly
+/// two bytes.
 fn record(line: &[u8]) -> Option<Record> {
     let text = line.strip_prefix(b":")?;
     let digit = |&byte: &u8| (byte as char).to_digit(16).map(|digit| digit as u8);

@@ -113,7 +113,7 @@ fn put(random: &mut Random, draft: &mut Draft, place: Place, upper: Option<u16>,
     }
 }
 
-/// Gives a cell at the beginning of a draft.
+/// Gives a cell somewhere before the last line of a draft.
 fn give(random: &mut Random, draft: &mut Draft, cell: u32) {
     let record = Record { kind: DATA, address: cell as u16, data: vec![random.byte()] };
     put(random, draft, Place::Middle, Some((cell >> 16) as u16), Line::Record(record));
@@ -189,8 +189,8 @@ fn outside_record(random: &mut Random, first_line: bool) -> (Option<u16>, Record
 }
 
 /// A data record with a cell that is given twice: a record again, with the same bytes or others, a
-/// cell of one alone, or one that overlaps another by one cell at either end. With it comes the index
-/// of the line that gave the cell.
+/// cell of one alone, or one that overlaps another by one cell at either end. With it comes the
+/// index of the line that gave the cell.
 fn twice_record(random: &mut Random, draft: &mut Draft) -> (usize, Option<u16>, Record) {
     if draft.given().is_empty() {
         let cell = random.pick(&[0x1000, 0x2345, 0xFFFF, 0xF00000, 0xF00026, 0xF003FF]);
@@ -252,8 +252,8 @@ fn other_length(record: &Record, length: u8) -> Vec<u8> {
     bytes
 }
 
-/// The line of a record with bad digits or lengths, in one of so many ways; with `wrong_sum` the sum
-/// is bad too where there is one.
+/// The line of a record with bad digits or lengths, in one of so many ways; with `wrong_sum` the
+/// sum is bad too where there is one.
 fn form_fault(
     random: &mut Random,
     draft: &Draft,
@@ -423,8 +423,8 @@ pub fn end_fault(random: &mut Random, draft: &mut Draft, way: usize) {
 /// How many ways `end_fault` knows.
 pub const ENDS: usize = 9;
 
-/// Changes one record and mends its sum: another address, another type, a byte of data more or fewer.
-/// Any refusal, or none.
+/// Changes one record and mends its sum: another address, another type, a byte of data more or
+/// fewer. Any refusal, or none.
 pub fn mended(random: &mut Random, draft: &mut Draft) {
     let at = random.below(draft.lines.len());
     if let Line::Record(record) = &mut draft.lines[at] {

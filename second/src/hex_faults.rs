@@ -37,8 +37,8 @@ pub struct Line<'a> {
     pub upper: u16,
     /// Whether an end record stands before it.
     pub behind_end: bool,
-    /// The numbers of all checks that fail, upward. Sum and type are looked at where there are bytes
-    /// enough, and a record of another type is looked at as if its data were cells.
+    /// The numbers of all checks that fail, upward. Sum and type are looked at where there are
+    /// bytes enough, and a record of another type is looked at as if its data were cells.
     pub faults: Vec<u8>,
     pub again: Vec<Again>,
 }

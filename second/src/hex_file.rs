@@ -26,7 +26,8 @@ pub fn recipe(text: &[u8], module: u8, group: u8) -> Result<Vec<u8>, String> {
     hex::read(text, module, group, MOST_RECIPE).map_err(refused)
 }
 
-/// The text of a file, `-` for standard input: no more of it than is needed to tell that it is long.
+/// The text of a file, `-` for standard input: no more of it than is needed to tell that it is
+/// long.
 pub fn text(file: &str) -> io::Result<Vec<u8>> {
     let mut text = Vec::new();
     let most = MOST_BYTES as u64 + 1;

@@ -11,8 +11,8 @@ use std::path::Path;
 const EMPTY_RECORD: &[u8] = b":0000000000\n";
 const END_RECORD: &[u8] = b":00000001FF";
 
-/// A text of so many bytes: these lines, records without data, and this last line. A CR before an LF
-/// is one byte more.
+/// A text of so many bytes: these lines, records without data, and this last line. A CR before an
+/// LF is one byte more.
 fn of_length(lines: &[u8], last: &[u8], length: usize) -> Vec<u8> {
     let left = length - lines.len() - last.len();
     let (records, more) = (left / EMPTY_RECORD.len(), left % EMPTY_RECORD.len());

@@ -99,8 +99,8 @@ fn outermost_row(cell: u64) -> String {
     format!("a record {what} at 0x{cell:06X}")
 }
 
-/// The cells of a text by their blocks and rows: for the first cell of each, the places of those that
-/// are given, and which of the lines that give cells give these.
+/// The cells of a text by their blocks and rows: for the first cell of each, the places of those
+/// that are given, and which of the lines that give cells give these.
 fn touched(lines: &[Line]) -> HashMap<u64, (Vec<u64>, Vec<usize>)> {
     let mut touched: HashMap<u64, (Vec<u64>, Vec<usize>)> = HashMap::new();
     for (index, line) in lines.iter().filter(|line| line.gives()).enumerate() {

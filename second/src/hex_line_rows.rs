@@ -1,5 +1,5 @@
-//! The rows of the line that a HEX text is refused at: in which way its digits, lengths, sum, type or
-//! cells are at fault, as its bytes show.
+//! The rows of the line that a HEX text is refused at: in which way its digits, lengths, sum, type
+//! or cells are at fault, as its bytes show.
 
 use crate::hex::*;
 use crate::hex_faults::*;

@@ -1,5 +1,5 @@
-//! Request A5: its sentences and points 71 to 79 with small texts made by hand, the streams, and what
-//! is counted of them.
+//! Request A5: its sentences and points 71 to 79 with small texts made by hand, the streams, and
+//! what is counted of them.
 
 use crate::hex::*;
 use crate::hex_coverage::hex_coverage;
@@ -188,7 +188,8 @@ fn endings() {
     assert_eq!(read(format!("{EMPTY}\n\r{END_LINE}\n").as_bytes()), Err((30, 2)));
 }
 
-/// "empty text has no lines (35 at line 1)"; LF alone, CR LF alone, CR alone is an empty or bad line.
+/// "empty text has no lines (35 at line 1)"; LF alone, CR LF alone, CR alone is an empty or bad
+/// line.
 #[test]
 fn next_to_no_text() {
     assert_eq!(read(b""), Err((35, 1)));
@@ -232,8 +233,8 @@ fn addresses_not_looked_at() {
     }
 }
 
-/// "a record runs on past 0xFFFF", and no sum overflows at 0xFFFFFFFF (point 75): all such cells are
-/// outside.
+/// "a record runs on past 0xFFFF", and no sum overflows at 0xFFFFFFFF (point 75): all such cells
+/// are outside.
 #[test]
 fn past_the_end() {
     assert_eq!(accepted(&[&rec("01 FF FF 00 01")]), recipe(&[block(0xFFC0, &[(63, 1)])]));
@@ -435,8 +436,8 @@ fn other_types() {
     refused(&[&rec("01 00 00 02 10 00")], 30, 1);
 }
 
-/// Each number at the first, a middle and the last line; 34 has a line before it, and 35 at the first
-/// line is an empty text.
+/// Each number at the first, a middle and the last line; 34 has a line before it, and 35 at the
+/// first line is an empty text.
 #[test]
 fn each_number_at_each_line() {
     let bad = [
@@ -472,7 +473,8 @@ fn failing(lines: &[&str], numbers: &[u8], line: usize) {
 #[test]
 fn order_at_a_line() {
     let given = rec("01 10 00 00 01");
-    // 30 before 31: a type 01 with data, a type 04 of three bytes, a length, all with a bad sum too.
+    // 30 before 31: a type 01 with data, a type 04 of three bytes, a length, all with a bad sum
+    // too.
     for line in [":0100000100FF", ":0300000400F0000A", ":031A0000ABCD6C"] {
         failing(&[line], &[30, 31], 1);
     }
@@ -598,8 +600,8 @@ fn longest_recipe() {
     assert_eq!(read(&more), Err((34, lines)));
 }
 
-/// "Read plainly, the recipe gives every cell the file gives, 0xFF in the rest of a touched block or
-/// row, and no other change, save BOOTFL, which ends 0x00."
+/// "Read plainly, the recipe gives every cell the file gives, 0xFF in the rest of a touched block
+/// or row, and no other change, save BOOTFL, which ends 0x00."
 #[test]
 fn plain_reading_of_the_recipe() {
     let lines = [
@@ -723,7 +725,8 @@ fn texts() {
     }
 }
 
-/// Rows are told from the texts: what a line is refused for, and that nothing is reached by nothing.
+/// Rows are told from the texts: what a line is refused for, and that nothing is reached by
+/// nothing.
 #[test]
 fn rows() {
     let row = |line: &str, row: &str| {

@@ -96,8 +96,8 @@ pub fn text(random: &mut Random, index: usize) -> Vec<u8> {
     draft.written(random)
 }
 
-/// The length of the lent output for a text whose recipe has so many bytes: exactly enough, one byte
-/// short, nothing, more, much more.
+/// The length of the lent output for a text whose recipe has so many bytes: exactly enough, one
+/// byte short, nothing, more, much more.
 fn room(random: &mut Random, needed: usize) -> usize {
     let length = match random.below(200) {
         0..=89 => needed,

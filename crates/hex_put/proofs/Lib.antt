@@ -1,2 +1,3 @@
 pub mod Marking
 pub mod Putting
+pub mod Whole

@@ -1,42 +1,60 @@
+-- `hex_put::put_recipe` meets its contract: Open, the blocks, the rows and Leave, one behind the other.
+-- Assumes nothing.
+use mathlib.Core.Path.{_≡_, _∙_, refl, sym, ap, subst}
+use mathlib.Core.List.{List, [], _∷_, _++_}
+use Prim.Native.Nat.{ℕ, _≤_}
+use lib.ListN.{length}
+use Rattle.base.specs.Parts.{patch}
+use Rattle.hex_put.proofs.Whole.{blocks, rows, bytes-parts, blocks-inside, rows-inside, first-room, second-room, first-long, fourth}
+use native.Mathlib.Omega.{arith}
+use borrow.Author.Needs.{needs}
 use borrow.Author.Needs.{needs}
 use Rattle.hex_put.proofs.put_recipe.Statement.{statement}
 use Rattle.hex_put.proofs.put_recipe.Tie as tie
-use Rattle.hex_put.proofs.put_recipe.Reads as reads
-use Rattle.hex_put.proofs.put_recipe.Lts as lts
 use Rattle.base.proofs.put.Reads as put-reads
 use Rattle.hex_put.proofs.put_items.Reads as put-items-reads
 
--- src/lib.rt:68:26
 slice-aggregate-put : tie.Need-slice-aggregate-put
 slice-aggregate-put c = search needs
 
--- src/lib.rt:68:5
 put-requires : tie.Need-put-requires
 put-requires c κs = search needs
 
--- src/lib.rt:69:9
 put-items-requires : tie.Need-put-items-requires
-put-items-requires c κs = ?
+put-items-requires c κs =
+    let a = c .before .before .before .before .before .before .before .before .args in
+    let room = rw (bytes-parts (a .m .0) (a .g .0) (a .table .now)) at (c .before .before .before .before .before .before .before .before .pre .1) in (
+      blocks-inside (a .table .now) (c .before .before .before .before .before .before .before .before .pre .0),
+      omega arith,
+      first-room (a .output .now) (0x01 ∷ a .m .0 ∷ a .g .0 ∷ []) (blocks (a .table .now)) (rows (a .table .now)) (0x0F ∷ []) room _ (c .before .before .before .put .ensures) 3 refl,
+    )
 
--- src/lib.rt:70:9
 put-items-requires-2 : tie.Need-put-items-requires-2
-put-items-requires-2 c κs = ?
+put-items-requires-2 c κs =
+    let a = c .before .before .before .before .before .before .before .before .before .before .before .before .args in
+    let room = rw (bytes-parts (a .m .0) (a .g .0) (a .table .now)) at (c .before .before .before .before .before .before .before .before .before .before .before .before .pre .1) in (
+      rows-inside (a .table .now) (c .before .before .before .before .before .before .before .before .before .before .before .before .pre .0),
+      omega arith,
+      second-room (a .output .now) (0x01 ∷ a .m .0 ∷ a .g .0 ∷ []) (blocks (a .table .now)) (rows (a .table .now)) (0x0F ∷ []) room _ (c .before .before .before .before .before .before .before .put .ensures) _ 3 refl (c .before .before .before .put-items .ensures .1) _ (c .before .before .before .put-items .ensures .0),
+    )
 
--- src/lib.rt:71:29
 slice-aggregate-put-2 : tie.Need-slice-aggregate-put-2
 slice-aggregate-put-2 c = search needs
 
--- src/lib.rt:71:5
 put-requires-2 : tie.Need-put-requires-2
 put-requires-2 c κs = search needs
 
--- src/lib.rt:64:1
 same-length : tie.Need-same-length
 same-length c = search needs
 
--- src/lib.rt:64:1
 returns : tie.Need-returns
-returns c = ?
+returns c =
+    let a = c .before .before .before .before .before .before .before .before .before .before .before .before .before .before .before .before .before .before .before .before .args in
+    let room = rw (bytes-parts (a .m .0) (a .g .0) (a .table .now)) at (c .before .before .before .before .before .before .before .before .before .before .before .before .before .before .before .before .before .before .before .before .pre .1) in
+    rw (bytes-parts (a .m .0) (a .g .0) (a .table .now))
+    (fourth (a .output .now) (0x01 ∷ a .m .0 ∷ a .g .0 ∷ []) (blocks (a .table .now)) (rows (a .table .now)) (0x0F ∷ []) room _
+    (c .before .before .before .before .before .before .before .before .before .before .before .before .before .before .before .put .ensures) _ 3 refl (c .before .before .before .before .before .before .before .before .before .before .before .put-items .ensures .1) _ _ (c .before .before .before .before .before .before .before .before .before .before .before .put-items .ensures .0) (c .before .before .before .before .before .before .before .put-items2 .ensures .1) _ _
+    (c .before .before .before .before .before .before .before .put-items2 .ensures .0) (c .before .before .put2 .ensures))
 
 pub put-recipe-spec : {M : Type 1} → statement M
 put-recipe-spec =
