@@ -10,7 +10,7 @@ use crate::hex_line_rows::line_rows;
 use crate::hex_stream::{self, HexTrial};
 use crate::hex_texts::hex_texts;
 use crate::memory::{BOOTFL, EEPROM_CELLS, FLASH_CELLS};
-use crate::read_hex::{patterns, read_hex, wrong_recipe};
+use crate::read_hex::{patterns, read_hex, wrong_recipe, wrong_refusal};
 use crate::recipe::{items, plain_reading, translate};
 use crate::samples::bytes;
 
@@ -675,6 +675,23 @@ fn wrong_recipes() {
     // A text that ought to be refused.
     let bad = HexTrial { text: ended(&["x"]), ..trial.clone() };
     assert!(wrong_recipe(&bad, &recipe(&[]), &patterns()).is_some());
+}
+
+/// And what it looks for in a refusal: another number, another line, 26 with room enough.
+#[test]
+fn wrong_refusals() {
+    let wrong = |lines: &[&str], room, number, line| {
+        let trial = HexTrial { module: 0x05, group: 0x0A, room, text: ended(lines) };
+        wrong_refusal(&trial, Refusal { number, line }).is_some()
+    };
+    let bad = [EMPTY, ":0000000001"];
+    assert!(!wrong(&bad, 0, 31, 2));
+    assert!(wrong(&bad, 0, 31, 1) && wrong(&bad, 0, 30, 2) && wrong(&bad, 0, 26, 0));
+    let good = [&rec("02 20 3F 00 01 02"), TO_EEPROM, &rec("01 00 00 00 01")];
+    let needed = 4 + 2 * 68 + 12;
+    assert!(!wrong(&good, needed - 1, 26, 0) && !wrong(&good, 0, 26, 0));
+    assert!(wrong(&good, needed, 26, 0) && wrong(&good, needed - 1, 26, 1));
+    assert!(wrong(&good, needed, 35, 5));
 }
 
 /// The stream: a header of 64 bytes, the text, filled up with 0; a line for each text.

@@ -7,6 +7,7 @@ use crate::hex_faults::{examine, verdict};
 use crate::hex_stream::{read, HexTrial};
 use crate::memory::{BOOTFL, EEPROM_BASE, EEPROM_CELLS, FLASH_CELLS};
 use crate::recipe::{items, plain_reading, BLOCK_ITEM, LEAVE, OPEN, ROW_ITEM};
+use std::collections::HashSet;
 use std::io::{self, Write};
 
 /// FLASH and EEPROM.
@@ -68,6 +69,14 @@ fn become_by(cells: &[(usize, u8)], (flash, eeprom): &mut Memories) {
     eeprom[BOOTFL] = 0x00;
 }
 
+/// The length of the recipe of these cells: Open and Leave, 68 bytes a block, 12 bytes a row.
+fn needed(cells: &[(usize, u8)]) -> usize {
+    let base = EEPROM_BASE as usize;
+    let blocks = cells.iter().filter(|(cell, _)| *cell < base).map(|(cell, _)| cell / 64);
+    let rows = cells.iter().filter(|(cell, _)| *cell >= base).map(|(cell, _)| cell / 8);
+    4 + 68 * blocks.collect::<HashSet<_>>().len() + 12 * rows.collect::<HashSet<_>>().len()
+}
+
 /// Whether a recipe is one that translates: Open with these numbers, Blocks upward, Rows upward,
 /// Leave.
 fn right_shape(recipe: &[u8], module: u8, group: u8) -> bool {
@@ -103,10 +112,13 @@ pub fn wrong_recipe(trial: &HexTrial, recipe: &[u8], patterns: &[Memories]) -> O
 }
 
 /// What is wrong with a refusal.
-fn wrong_refusal(trial: &HexTrial, refusal: Refusal) -> Option<String> {
+pub fn wrong_refusal(trial: &HexTrial, refusal: Refusal) -> Option<String> {
     let found = verdict(&examine(&trial.text));
     let right = match (refusal.number, refusal.line) {
-        (SHORT_OUTPUT, 0) => found.is_none(),
+        (SHORT_OUTPUT, 0) => {
+            let short = |cells: Vec<_>| trial.room < needed(&cells);
+            found.is_none() && cells(&trial.text).is_some_and(short)
+        }
         told => found == Some(told),
     };
     (!right).then(|| format!("refused with {refusal:?}, but {found:?} is at fault"))

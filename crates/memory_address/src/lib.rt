@@ -43,13 +43,13 @@ pub const EEPROM_FIRST: u32 = 0xF00000;
 
 // The first and the last row of each memory that may be read or written, and the last block that may be erased. The first row of
 // FLASH is the rim: the loader lies below it.
-const RIM: u32 = 0x001000;
+pub const RIM: u32 = 0x001000;
 
 const LAST_FLASH_ROW: u32 = 0x00FFF8;
 
-const LAST_BLOCK: u32 = 0x00FFC0;
+pub const LAST_BLOCK: u32 = 0x00FFC0;
 
-const LAST_EEPROM_ROW: u32 = 0xF003F8;
+pub const LAST_EEPROM_ROW: u32 = 0xF003F8;
 
 // The places of document 01, each once.
 pub const BOOTFL: EepromPlace = EepromPlace(0xF00000);

@@ -2,7 +2,6 @@
 -- Assumes nothing.
 use mathlib.Core.Path.{_≡_}
 use Prim.Native.Nat.{_-_, _+_}
-
 use Rattle.hex_put.proofs.Putting.{Sized, sized-start, sized-next, sized-end, item-inside}
 use native.Mathlib.Omega.{arith}
 use borrow.Author.Needs.{needs}
@@ -17,7 +16,7 @@ abbrev μ-loop : tie.MeasureT-loop
 μ-loop table from count size all₀ at₀ i₀ all at i = count - i
 
 loop-holds : tie.Need-loop-holds Inv-loop μ-loop
-loop-holds c =     let a = c .before .args in sized-start (a .table .now) (a .size) (a .count) (a .from)
+loop-holds c = let a = c .before .args in sized-start (a .table .now) (a .size) (a .count) (a .from)
 
 add-end : tie.Need-add-end Inv-loop μ-loop
 add-end c =

@@ -1,0 +1,15 @@
+-- `hex_line::digits::digit_of` meets its contract: the table is right.
+-- Assumes nothing.
+use Rattle.hex_line.proofs.Table.{in-table}
+use borrow.Author.Needs.{needs}
+use Rattle.hex_line.proofs.digits.digit_of.Statement.{statement}
+use Rattle.hex_line.proofs.digits.digit_of.Tie as tie
+
+array-read-result : tie.Need-array-read-result
+array-read-result c = search needs
+
+returns : tie.Need-returns
+returns c = in-table (c .args .c) (search needs)
+
+pub digit-of-spec : {M : Type 1} → statement M
+digit-of-spec = tie.close (tie.spec array-read-result returns)

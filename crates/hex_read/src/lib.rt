@@ -1,0 +1,2 @@
+// Intel HEX in.
+mod cells;
