@@ -1,17 +1,17 @@
 -- Entries stored over places one by one, and what the code's tests say of the faults of giving.
 -- Assumes nothing.
 use mathlib.Core.Path.{_≡_, _∙_, refl, sym, ap}
-use mathlib.Core.Bool.{Bool, true, false, not, _&&_, true≢false}
+use mathlib.Core.Bool.{Bool, true, false, _&&_, cond}
 use mathlib.Core.List.{List, [], _∷_, _++_}
 use Prim.Native.Nat.{ℕ, zero, suc, _+_, _-_, _≤_, _<_}
 use native.Mathlib.Nat.{le-of-suc-le-suc, not-suc-le-zero}
 use native.Mathlib.Omega.{arith}
 use lib.Dec.{eqb, leb}
 use lib.ListN.{length, getD, take, drop}
-use borrow.Author.Tests.{eq-eqb, ne-eqb, leb-true, not-true, not-false}
+use borrow.Author.Tests.{eq-eqb, ne-eqb, leb-true}
 use Rattle.base.specs.Parts.{part, patch}
-use Rattle.base.proofs.Choice.{cond-true, cond-false, both-true, by-cond}
-use Rattle.base.proofs.Patched.{put-back, part-length, length-patch}
+use Rattle.base.proofs.Choice.{cond-true, cond-false, both-true}
+use Rattle.base.proofs.Patched.{put-back}
 use Rattle.hex_put.specs.Internal.Table.{someMarked}
 use Rattle.hex_read.specs.Internal.Giving.{indexOf, entries, givingFault, withCells}
 

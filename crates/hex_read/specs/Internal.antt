@@ -1,3 +1,4 @@
 -- What is the code's own shape: the words of contracts inside, which no cited statement rests on.
 pub mod Marks
 pub mod Giving
+pub mod Judging

@@ -30,10 +30,22 @@ fn index_of(start: usize, count: usize) -> usize
     if within(RIM as usize, LAST_BLOCK as usize + 64, start, end) {
         return start;
     }
-    if within(EEPROM_FIRST as usize, LAST_EEPROM_ROW as usize + 8, start, end) {
+    if within(
+        EEPROM_FIRST as usize,
+        LAST_EEPROM_ROW as usize + 8,
+        start,
+        end,
+    ) {
         return 65536 + (start - EEPROM_FIRST as usize);
     }
     66560
+}
+
+// What a place that is given a byte is marked with.
+fn entry(b: u8) -> u16
+    ensures { λ r. ⌜ r ≡ 256 + b ⌝ }
+{
+    256 + b as u16
 }
 
 // Marks places with bytes, up to the first that is marked already. It answers whether there was none; else the places are of no more use.
@@ -49,7 +61,7 @@ fn mark(bytes: &[u8], places: &mut [u16]) -> bool
         if places[i] > 255 {
             return false;
         }
-        places[i] = 256 + bytes[i] as u16;
+        places[i] = entry(bytes[i]);
         i += 1;
     }
     true

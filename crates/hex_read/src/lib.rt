@@ -1,2 +1,3 @@
 // Intel HEX in.
 mod cells;
+mod judge;

@@ -1,69 +1,63 @@
+-- `hex_read::cells::index_of` meets its contract: FLASH's area is tried, and then EEPROM's.
+-- Assumes nothing.
+use mathlib.Core.Path.{_≡_, _∙_, sym}
+use Rattle.base.proofs.Choice.{both-true}
+use borrow.Author.Tests.{leb-true}
+use Rattle.hex_read.proofs.Storing.{in-flash, in-eeprom, in-neither}
+use native.Mathlib.Omega.{arith}
+use borrow.Author.Needs.{needs}
 use borrow.Author.Needs.{needs}
 use Rattle.hex_read.proofs.cells.index_of.Statement.{statement}
 use Rattle.hex_read.proofs.cells.index_of.Tie as tie
-use Rattle.hex_read.proofs.cells.index_of.Reads as reads
-use Rattle.hex_read.proofs.cells.index_of.Lts as lts
 use Rattle.hex_read.proofs.cells.within.Reads as within-reads
 
--- src/cells.rt:29:15
 add-end : tie.Need-add-end
 add-end c = search needs
 
--- src/cells.rt:30:15
 cast-within : tie.Need-cast-within
 cast-within c = search needs
 
--- src/cells.rt:30:29
 cast-within-2 : tie.Need-cast-within-2
 cast-within-2 c = search needs
 
--- src/cells.rt:30:29
 add-within : tie.Need-add-within
 add-within c = search needs
 
--- src/cells.rt:30:8
 within-requires : tie.Need-within-requires
 within-requires c κs = search needs
 
--- src/cells.rt:31:9
 returns : tie.Need-returns
-returns c = ?
+returns c = in-flash (c .before .before .args .start) (c .before .before .args .count) (sym (c .before .within .ensures) ∙ c .if1 .taken)
 
--- src/cells.rt:33:15
 cast-within-3 : tie.Need-cast-within-3
 cast-within-3 c = search needs
 
--- src/cells.rt:33:38
 cast-within-4 : tie.Need-cast-within-4
 cast-within-4 c = search needs
 
--- src/cells.rt:33:38
 add-within-2 : tie.Need-add-within-2
 add-within-2 c = search needs
 
--- src/cells.rt:33:8
 within-requires-2 : tie.Need-within-requires-2
 within-requires-2 c κs = search needs
 
--- src/cells.rt:34:33
 cast-result : tie.Need-cast-result
 cast-result c = search needs
 
--- src/cells.rt:34:25
 sub-result : tie.Need-sub-result
-sub-result c = ?
+sub-result c =
+    let h = both-true _ _ (sym (c .before .within2 .ensures) ∙ c .if2 .taken) in
+    let l = leb-true 0xF00000 (c .before .before .before .before .args .start) (h .0) in
+    omega arith
 
--- src/cells.rt:34:16
 add-result : tie.Need-add-result
 add-result c = search needs
 
--- src/cells.rt:34:9
 returns-2 : tie.Need-returns-2
-returns-2 c = ?
+returns-2 c = in-eeprom (c .before .before .before .before .args .start) (c .before .before .before .before .args .count) (sym (c .before .before .before .within .ensures) ∙ c .before .before .if1 .left) (sym (c .before .within2 .ensures) ∙ c .if2 .taken)
 
--- src/cells.rt:25:1
 returns-3 : tie.Need-returns-3
-returns-3 c = ?
+returns-3 c = in-neither (c .before .before .before .before .args .start) (c .before .before .before .before .args .count) (sym (c .before .before .before .within .ensures) ∙ c .before .before .if1 .left) (sym (c .before .within2 .ensures) ∙ c .if2 .left)
 
 pub index-of-spec : {M : Type 1} → statement M
 index-of-spec =

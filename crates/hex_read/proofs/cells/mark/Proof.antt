@@ -1,73 +1,101 @@
+-- `hex_read::cells::mark` meets its contract: after i turns the first i places are marked, and none of them was before.
+-- Assumes nothing.
+use mathlib.Core.Path.{_≡_, _∙_, refl, sym, ap}
+use mathlib.Core.Bool.{Bool, true, not, false≢true}
+use Prim.Native.Nat.{_-_, _≤_}
+use native.Mathlib.Numerals.{add-one}
+use lib.ListN.{length, getD, drop}
+use Rattle.base.proofs.Stored.{mix, mix-next, mix-length, mix-all, stored}
+use Rattle.hex_put.specs.Internal.Table.{someMarked}
+use Rattle.hex_put.proofs.Marking.{marked-here, unmarked-here, none-marked}
+use Rattle.hex_read.specs.Internal.Giving.{entries}
+use Rattle.hex_read.proofs.Storing.{entries-length, entry-at}
+use native.Mathlib.Omega.{arith}
+use borrow.Author.Needs.{needs}
 use Rattle.hex_read.proofs.cells.mark.Statement.{statement}
 use Rattle.hex_read.proofs.cells.mark.Tie as tie
-use Rattle.hex_read.proofs.cells.mark.Reads as reads
-use Rattle.hex_read.proofs.cells.mark.Lts as lts
+use Rattle.hex_read.proofs.cells.entry.Reads as entry-reads
 
 abbrev Inv-loop : tie.InvT-loop
-Inv-loop bytes places₀ i₀ places i = ?
+Inv-loop bytes places₀ i₀ places i = (i ≤ length bytes) × (places ≡ mix (entries bytes) places₀ i) × (someMarked places₀ ≡ someMarked (drop i places₀))
 
 abbrev μ-loop : tie.MeasureT-loop
-μ-loop bytes places₀ i₀ places i = ?
+μ-loop bytes places₀ i₀ places i = length bytes - i
 
--- src/cells.rt:48:5
 loop-holds : tie.Need-loop-holds Inv-loop μ-loop
-loop-holds c = ?
+loop-holds c = (omega arith, refl, refl)
 
--- src/cells.rt:49:12
 mul-if1 : tie.Need-mul-if1 Inv-loop μ-loop
-mul-if1 c = ?
+mul-if1 c = omega arith
 
--- src/cells.rt:49:12
 slice-read-if1 : tie.Need-slice-read-if1 Inv-loop μ-loop
-slice-read-if1 c = ?
+slice-read-if1 c =
+    let a = c .before .before .before .before .before .args in
+    let l = c .before .before .loop in
+    omega (arith, ap length (l .inv .1), mix-length (entries (a .bytes .now)) (a .places .now) (l .i) (entries-length (a .bytes .now) ∙ sym (c .before .before .before .before .before .pre)), c .before .before .before .before .before .pre)
 
--- src/cells.rt:50:13
 same-length : tie.Need-same-length Inv-loop μ-loop
-same-length c = ?
+same-length c =
+    let a = c .before .before .before .before .before .before .args in
+    let l = c .before .before .before .loop in
+    ap length (l .inv .1) ∙ mix-length (entries (a .bytes .now)) (a .places .now) (l .i) (entries-length (a .bytes .now) ∙ sym (c .before .before .before .before .before .before .pre))
 
--- src/cells.rt:50:13
 returns : tie.Need-returns Inv-loop μ-loop
-returns c = ?
+returns c =
+    let a = c .before .before .before .before .before .before .args in
+    let l = c .before .before .before .loop in
+    let old = ap (λ (x : _). getD x (l .i) 0) (l .inv .1) ∙ mix-next (entries (a .bytes .now)) (a .places .now) (l .i) (omega (arith, entries-length (a .bytes .now), c .before .before .loop-test .taken)) (omega (arith, c .before .before .loop-test .taken, c .before .before .before .before .before .before .pre)) in (
+      ap not (marked-here (a .places .now) (l .i) (omega (arith, c .before .before .loop-test .taken, c .before .before .before .before .before .before .pre)) (omega (arith, old, c .if1 .taken)) (l .inv .2)),
+      λ e. absurd (false≢true e),
+      ap length (l .inv .1) ∙ mix-length (entries (a .bytes .now)) (a .places .now) (l .i) (entries-length (a .bytes .now) ∙ sym (c .before .before .before .before .before .before .pre)),
+    )
 
--- src/cells.rt:52:27
-shared-slice-read-places : tie.Need-shared-slice-read-places Inv-loop μ-loop
-shared-slice-read-places c = ?
+shared-slice-read-entry : tie.Need-shared-slice-read-entry Inv-loop μ-loop
+shared-slice-read-entry c = omega arith
 
--- src/cells.rt:52:27
-cast-places : tie.Need-cast-places Inv-loop μ-loop
-cast-places c = ?
+entry-requires : tie.Need-entry-requires Inv-loop μ-loop
+entry-requires c κs = search needs
 
--- src/cells.rt:52:21
-add-places : tie.Need-add-places Inv-loop μ-loop
-add-places c = ?
-
--- src/cells.rt:52:9
 mul-places : tie.Need-mul-places Inv-loop μ-loop
-mul-places c = ?
+mul-places c = omega arith
 
--- src/cells.rt:52:9
 slice-write-places : tie.Need-slice-write-places Inv-loop μ-loop
-slice-write-places c = ?
+slice-write-places c =
+    let a = c .before .before .before .before .before .before .before .before .args in
+    let l = c .before .before .before .before .before .loop in
+    omega (arith, ap length (l .inv .1), mix-length (entries (a .bytes .now)) (a .places .now) (l .i) (entries-length (a .bytes .now) ∙ sym (c .before .before .before .before .before .before .before .before .pre)), c .before .before .before .before .before .before .before .before .pre)
 
--- src/cells.rt:53:9
 add-i : tie.Need-add-i Inv-loop μ-loop
-add-i c = ?
+add-i c = omega arith
 
--- src/cells.rt:48:5
 loop-less : tie.Need-loop-less Inv-loop μ-loop
-loop-less c = ?
+loop-less c = omega arith
 
--- src/cells.rt:48:5
 loop-again : tie.Need-loop-again Inv-loop μ-loop
-loop-again c = ?
+loop-again c =
+    let a = c .before .before .before .before .before .before .before .before .args in
+    let l = c .before .before .before .before .before .loop in
+    let old = ap (λ (x : _). getD x (l .i) 0) (l .inv .1) ∙ mix-next (entries (a .bytes .now)) (a .places .now) (l .i) (omega (arith, entries-length (a .bytes .now), c .before .before .before .before .loop-test .taken)) (omega (arith, c .before .before .before .before .loop-test .taken, c .before .before .before .before .before .before .before .before .pre)) in (
+      omega arith,
+      stored (entries (a .bytes .now)) (a .places .now) (l .places) (l .i) _ (l .inv .1) (c .entry .ensures ∙ sym (entry-at (a .bytes .now) (l .i) (c .before .before .before .before .loop-test .taken))) (omega (arith, entries-length (a .bytes .now), c .before .before .before .before .loop-test .taken)) (omega (arith, c .before .before .before .before .loop-test .taken, c .before .before .before .before .before .before .before .before .pre)),
+      rw add-one (unmarked-here (a .places .now) (l .i) (omega (arith, c .before .before .before .before .loop-test .taken, c .before .before .before .before .before .before .before .before .pre)) (omega (arith, old, c .before .before .if1 .left)) (l .inv .2)),
+    )
 
--- src/cells.rt:40:1
 same-length-2 : tie.Need-same-length-2 Inv-loop μ-loop
-same-length-2 c = ?
+same-length-2 c =
+    let a = c .before .before .before .before .args in
+    let l = c .before .loop in
+    ap length (l .inv .1) ∙ mix-length (entries (a .bytes .now)) (a .places .now) (l .i) (entries-length (a .bytes .now) ∙ sym (c .before .before .before .before .pre))
 
--- src/cells.rt:40:1
 returns-2 : tie.Need-returns-2 Inv-loop μ-loop
-returns-2 c = ?
+returns-2 c =
+    let a = c .before .before .before .before .args in
+    let l = c .before .loop in
+    let all : l .i ≡ length (a .bytes .now) = omega (arith, c .loop-test .left, l .inv .0) in (
+      ap not (none-marked (a .places .now) (l .i) (omega (arith, all, c .before .before .before .before .pre)) (l .inv .2)),
+      λ _. l .inv .1 ∙ ap (mix (entries (a .bytes .now)) (a .places .now)) all ∙ mix-all (entries (a .bytes .now)) (a .places .now) (length (a .bytes .now)) (entries-length (a .bytes .now)) (c .before .before .before .before .pre),
+      ap length (l .inv .1) ∙ mix-length (entries (a .bytes .now)) (a .places .now) (l .i) (entries-length (a .bytes .now) ∙ sym (c .before .before .before .before .pre)),
+    )
 
 pub mark-spec : {M : Type 1} → statement M
 mark-spec =
@@ -80,9 +108,8 @@ mark-spec =
     slice-read-if1
     same-length
     returns
-    shared-slice-read-places
-    cast-places
-    add-places
+    shared-slice-read-entry
+    entry-requires
     mul-places
     slice-write-places
     add-i
