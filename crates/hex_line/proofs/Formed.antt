@@ -1,21 +1,21 @@
 -- A text's first line is a record in form just where every test of the reading passes: its characters are those that are read.
 -- Assumes nothing.
-use mathlib.Core.Path.{_≡_, _∙_, refl, sym, ap, ap₂, subst}
+use mathlib.Core.Path.{_≡_, _∙_, refl, sym, ap, subst}
 use mathlib.Core.Bool.{Bool, true, false, not, _&&_, _||_, cond}
 use mathlib.Core.List.{List, [], _∷_, _++_}
-use Prim.Native.Nat.{ℕ, zero, suc, _+_, _-_, _*_, _≤_, _<_}
+use Prim.Native.Nat.{ℕ, zero, suc, _+_, _*_, _≤_}
 use native.Mathlib.Omega.{arith}
 use borrow.Author.Tests.{eqb-true, ltb-true, eq-eqb, ne-eqb, le-ltb, not-false}
 use lib.Dec.{eqb, ltb}
 use lib.ListN.{length, getD, take, drop, length-append, take-append-drop}
 use lib.Seq.{take-at, drop-at, length-take-le}
 use Rattle.base.specs.Parts.{part}
-use Rattle.base.proofs.Choice.{by-cond, both-true, cond-true, cond-false}
+use Rattle.base.proofs.Choice.{by-cond, both-true}
 use Rattle.hex_rules.specs.Text.{lf, cr, linesOf}
 use Rattle.hex_rules.specs.Record.{colon, digitOf, isDigit, allDigits, pairsOf, recordOf, countOf, badDigit, badLength, badCount}
 use Rattle.hex_line.specs.Internal.Lines.{ending}
 use Rattle.hex_line.specs.Internal.Reading.{byteOf, countAt, endingAt}
-use Rattle.hex_line.proofs.Splitting.{Ending, ofLf, ofCrLf, ofText, Split, Plain, lines-plain, ending-length, ending-at-length, Ends, ends-of}
+use Rattle.hex_line.proofs.Splitting.{Ending, ofLf, ofCrLf, ofText, Plain, lines-plain, ending-length, ending-at-length, ends-of}
 
 -- a line without a bad digit or a bad length
 pub record Formed (l : List ℕ) : Type 0 where

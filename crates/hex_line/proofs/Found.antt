@@ -10,19 +10,19 @@ use borrow.Author.Tests.{ltb-false}
 use lib.Dec.{eqb, ltb}
 use lib.ListN.{length, getD, take, drop, replicate, length-append, length-drop}
 use lib.Seq.{drop-drop}
-use Rattle.base.specs.Parts.{part}
 use Rattle.base.proofs.Choice.{by-cond, cond-true, true-or-false}
 use Rattle.hex_rules.specs.Text.{linesOf}
-use Rattle.hex_rules.specs.Record.{colon, allDigits, pairsOf, recordOf, typeOf, countOf, badDigit, badLength, badCount}
+use Rattle.hex_rules.specs.Record.{colon, allDigits, pairsOf, badDigit, badLength, badCount}
 use Rattle.hex_line.specs.declared.Line.{Line}
 use Rattle.hex_line.specs.declared.digits.Pairs.{Pairs}
 use Rattle.hex_line.specs.Internal.Lines.{badLine, ending as endingOf, filled, lineBy, lineAt}
 use Rattle.hex_line.specs.Internal.Reading.{pairsRead, byteOf, countAt, endingAt}
-use Rattle.hex_line.proofs.Splitting.{Split, split-first, Ends, ends-of, ending-at-length}
+use Rattle.hex_line.proofs.Splitting.{Split, split-first, ends-of, ending-at-length}
 use Rattle.hex_line.proofs.Formed.{Passed, passes, formed, in-form, sizeAt, digitsAt, readAt, first-line}
 use Rattle.hex_line.proofs.Lines.{line-is-bad, line-is-good}
 
-bad-first : (at : ℕ) (t : List ℕ) (s : Split t) → (((badDigit (s .line) || badLength (s .line)) ≡ true) ⊎ ((badDigit (s .line) || badLength (s .line)) ≡ false))
+bad-first : (at : ℕ) (t : List ℕ) (s : Split t)
+    → (((badDigit (s .line) || badLength (s .line)) ≡ true) ⊎ ((badDigit (s .line) || badLength (s .line)) ≡ false))
     → (Passed t → ⊥) → lineBy at t (linesOf t) ≡ badLine
 bad-first at t s (inl g) h = ap (lineBy at t) (s .lines) ∙ line-is-bad at t (s .line) (linesOf (s .rest)) g
 bad-first at t s (inr g) h =
@@ -38,6 +38,17 @@ bad-text at (b ∷ bs) h =
 pub found-bad : (text : List ℕ) (at : ℕ) (r : Line) → r ≡ badLine → (Passed (drop at text) → ⊥) → r ≡ lineAt text at
 unfolding lineAt
 found-bad text at r e h = e ∙ sym (bad-text at (drop at text) h)
+
+-- all tests passed
+passed-line : (at : ℕ) (t : List ℕ) → Passed t → (next : ℕ) (bytes : List ℕ)
+    → next ≡ at + (sizeAt t + endingAt (drop (sizeAt t) t)) → bytes ≡ filled (pairsOf (digitsAt t))
+    → record { good = true; next = next; bytes = bytes } ≡ lineBy at t (linesOf t)
+passed-line at t p next bytes e b =
+    let f = first-line t p in
+    let same : next ≡ at + (length (readAt t) + endingOf (drop (length (readAt t)) t)) = omega (arith, f .size, f .ending) in
+    ap₂ (λ (m : ℕ) (x : List ℕ). record { good = true; next = m; bytes = x }) same (b ∙ ap filled (sym (f .bytes)))
+    ∙ sym (line-is-good at t (readAt t) (linesOf (f .rest)) (in-form (readAt t) (f .formed)))
+    ∙ sym (ap (lineBy at t) (f .lines))
 
 -- what the pairs that were read say of the digits
 pairs-good : (d : List ℕ) → pairsRead d .good ≡ allDigits d
@@ -145,12 +156,4 @@ module _ (text : List ℕ) (at n : ℕ) (counted : n ≡ countAt (drop at text))
               digits = sym good ∙ allGood;
               count = sym wanted ∙ h;
             } in
-            let f = first-line (drop at text) p in
-            let next : at + (11 + 2 * n) + e ≡ at + (length (readAt (drop at text)) + endingOf (drop (length (readAt (drop at text))) (drop at text))) =
-            omega (arith, f .size, f .ending, ending) in
-            let filledUp : pairs .bytes ≡ filled (recordOf (readAt (drop at text))) = bytes allGood ∙ ap filled (sym (f .bytes)) in
-            ap₂ (λ (m : ℕ) (b : List ℕ). record { good = true; next = m; bytes = b }) next filledUp
-            ∙ sym (
-            ap (lineBy at (drop at text)) (f .lines)
-            ∙ line-is-good at (drop at text) (readAt (drop at text)) (linesOf (f .rest)) (in-form (readAt (drop at text)) (f .formed))
-            )
+            passed-line at (drop at text) p (at + (11 + 2 * n) + e) (pairs .bytes) (omega (arith, ending)) (bytes allGood)

@@ -1,15 +1,15 @@
 -- What a line that was read says of the text: where it is not good the first line is bad in form, and where it is good its bytes are
 -- those of the first line, and the other lines start behind its ending.
 -- Assumes nothing.
-use mathlib.Core.Path.{_≡_, _∙_, refl, sym, ap, subst}
-use mathlib.Core.Bool.{Bool, true, false, _&&_, _||_, cond, false≢true}
+use mathlib.Core.Path.{_≡_, _∙_, refl, sym, ap}
+use mathlib.Core.Bool.{true, false, _&&_, _||_, false≢true}
 use mathlib.Core.List.{List, [], _∷_, _++_}
 use mathlib.Core.Logic.{_⊎_, inl, inr}
 use Prim.Native.Nat.{ℕ, zero, suc, _+_, _-_, _*_, _≤_, _<_}
 use native.Mathlib.Omega.{arith}
 use borrow.Author.Tests.{ltb-true}
 use lib.ListN.{length, drop, replicate, length-append, length-drop}
-use lib.Seq.{drop-at, drop-drop, drop-append-add}
+use lib.Seq.{drop-at, drop-drop}
 use Rattle.base.specs.Parts.{Bytes}
 use Rattle.base.proofs.Bytes.{byte-of}
 use Rattle.base.proofs.Choice.{cond-true, cond-false, true-or-false, both-true}
@@ -17,7 +17,7 @@ use Rattle.hex_rules.specs.Text.{linesOf}
 use Rattle.hex_rules.specs.Record.{digitOf, isDigit, allDigits, pairsOf, recordOf, countOf, badDigit, badLength}
 use Rattle.hex_line.specs.declared.Line.{Line}
 use Rattle.hex_line.specs.Internal.Lines.{badLine, ending, filled, lineBy, lineAt}
-use Rattle.hex_line.proofs.Splitting.{Ending, Split, split-first, ending-length}
+use Rattle.hex_line.proofs.Splitting.{Split, split-first, ending-length}
 use Rattle.hex_line.proofs.Formed.{Formed, formed}
 
 -- a line in form as it is read
@@ -28,7 +28,8 @@ goodLine at t l = record { good = true; next = at + (length l + ending (drop (le
 pub line-is-bad : (at : ℕ) (t l : List ℕ) (ls : List (List ℕ)) → (badDigit l || badLength l) ≡ true → lineBy at t (l ∷ ls) ≡ badLine
 line-is-bad at t l ls e = cond-true (badDigit l || badLength l) badLine (goodLine at t l) e
 
-pub line-is-good : (at : ℕ) (t l : List ℕ) (ls : List (List ℕ)) → (badDigit l || badLength l) ≡ false → lineBy at t (l ∷ ls) ≡ goodLine at t l
+pub line-is-good : (at : ℕ) (t l : List ℕ) (ls : List (List ℕ)) → (badDigit l || badLength l) ≡ false
+    → lineBy at t (l ∷ ls) ≡ goodLine at t l
 line-is-good at t l ls e = cond-false (badDigit l || badLength l) badLine (goodLine at t l) e
 
 -- a first line that is bad in form

@@ -2,18 +2,16 @@
 -- of all; what is not written yet is 0; and all are digits where those left are.
 -- Assumes nothing.
 use mathlib.Core.Path.{_≡_, _∙_, refl, sym, ap, ap₂}
-use mathlib.Core.Bool.{Bool, true, false, _&&_, cond}
+use mathlib.Core.Bool.{Bool, true, false, _&&_}
 use mathlib.Core.List.{List, [], _∷_, _++_, append-assoc, append-nil}
-use Prim.Native.Nat.{ℕ, zero, suc, _+_, _-_, _*_, _%_, _≤_, _<_}
+use Prim.Native.Nat.{ℕ, suc, _+_, _-_, _*_, _%_, _≤_, _<_}
 use native.Mathlib.Numerals.{add-one}
 use native.Mathlib.Omega.{arith}
-use borrow.Author.Tests.{lt-ltb, le-ltb, ltb-true}
-use lib.Dec.{ltb}
-use lib.ListN.{length, getD, set, take, drop, replicate, length-replicate, length-set, length-take, take-append-drop, drop-of-length-le}
+use borrow.Author.Tests.{lt-ltb, le-ltb}
+use lib.ListN.{length, getD, set, take, drop, replicate, length-replicate, length-set, take-append-drop, drop-of-length-le}
 use lib.Seq.{drop-cons, drop-drop, drop-set-lt, take-suc-set, length-take-le}
 use Rattle.base.proofs.Choice.{cond-true, cond-false}
 use Rattle.hex_rules.specs.Record.{digitOf, isDigit, allDigits, pairsOf}
-use Rattle.hex_line.specs.declared.digits.Pairs.{Pairs}
 use Rattle.hex_line.specs.Internal.Lines.{filled}
 use Rattle.hex_line.specs.Internal.Reading.{pairsRead}
 
@@ -38,10 +36,18 @@ done-start digits = record {
 next-two : (s : List ℕ) (k : ℕ) → k + 1 < length s → drop k s ≡ getD s k 0 ∷ (getD s (k + 1) 0 ∷ drop (k + 1 + 1) s)
 next-two s k h =
     drop-cons s k 0 (omega arith)
-    ∙ ap (λ (t : List ℕ). getD s k 0 ∷ t) (rw (add-one, add-one) (drop-cons s (suc k) 0 (omega arith)))
+    ∙ ap (λ (t : List ℕ). getD s k 0 ∷ t) (rw (add-one k, add-one (suc k)) (drop-cons s (suc k) 0 (omega arith)))
 
--- one that is no digit among them
-pub not-good : (digits : List ℕ) → allDigits digits ≡ false → record { good = false; bytes = replicate 260 0 } ≡ pairsRead digits
+-- all of them digits, or one of them not
+all-good : (digits : List ℕ) → allDigits digits ≡ true → record { good = true; bytes = filled (pairsOf digits) } ≡ pairsRead digits
+unfolding pairsRead
+all-good digits e =
+    sym (
+    cond-true (allDigits digits) (record { good = true; bytes = filled (pairsOf digits) })
+    (record { good = false; bytes = replicate 260 0 }) e
+    )
+
+not-good : (digits : List ℕ) → allDigits digits ≡ false → record { good = false; bytes = replicate 260 0 } ≡ pairsRead digits
 unfolding pairsRead
 not-good digits e =
     sym (
@@ -128,18 +134,22 @@ module _ (digits bytes : List ℕ) (i : ℕ) (d : Done digits bytes i) (even : l
       }
 
 -- behind the last turn all are read
-pub all-read : (digits bytes : List ℕ) (i : ℕ) → Done digits bytes i → length digits ≤ 520 → length digits ≤ 2 * i
-    → record { good = true; bytes = bytes } ≡ pairsRead digits
-unfolding pairsRead
-all-read digits bytes i d few over =
-    let none = drop-of-length-le digits {i = 2 * i} over in
-    let whole : take i bytes ≡ pairsOf digits =
-    sym (append-nil (take i bytes)) ∙ ap (λ (t : List ℕ). take i bytes ++ pairsOf t) (sym none) ∙ d .read in
-    let size : length (pairsOf digits) ≡ i = ap length (sym whole) ∙ length-take-le i bytes (omega (arith, d .size, d .within)) in
-    let filled-up : bytes ≡ filled (pairsOf digits) =
-    sym (take-append-drop i bytes) ∙ ap₂ _++_ whole (d .rest ∙ ap (λ (m : ℕ). replicate (260 - m) 0) (sym size)) in
-    ap (λ (b : List ℕ). record { good = true; bytes = b }) filled-up
-    ∙ sym (
-    cond-true (allDigits digits) (record { good = true; bytes = filled (pairsOf digits) })
-    (record { good = false; bytes = replicate 260 0 }) (sym (d .good) ∙ ap allDigits none)
-    )
+module _ (digits bytes : List ℕ) (i : ℕ) (d : Done digits bytes i) (few : length digits ≤ 520) (over : length digits ≤ 2 * i) where
+  none-left : drop (2 * i) digits ≡ []
+  none-left = drop-of-length-le digits {i = 2 * i} over
+
+  first-read : take i bytes ≡ pairsOf digits
+  first-read =
+      sym (append-nil (take i bytes)) ∙ ap (λ (t : List ℕ). take i bytes ++ pairsOf t) (sym none-left) ∙ d .read
+
+  count-read : length (pairsOf digits) ≡ i
+  count-read = ap length (sym first-read) ∙ length-take-le i bytes (omega (arith, d .size, d .within))
+
+  filled-up : bytes ≡ filled (pairsOf digits)
+  filled-up =
+      sym (take-append-drop i bytes)
+      ∙ ap₂ _++_ first-read (d .rest ∙ ap (λ (m : ℕ). replicate (260 - m) 0) (sym count-read))
+
+  pub all-read : record { good = true; bytes = bytes } ≡ pairsRead digits
+  all-read =
+      ap (λ (b : List ℕ). record { good = true; bytes = b }) filled-up ∙ all-good digits (sym (d .good) ∙ ap allDigits none-left)

@@ -1,17 +1,17 @@
 -- What each step of the reading finds, by the tests that led there.
 -- Assumes nothing.
-use mathlib.Core.Path.{_≡_, _∙_, refl, sym, ap}
-use mathlib.Core.Bool.{Bool, true, false, not, _&&_, cond}
-use mathlib.Core.List.{List, [], _∷_, _++_}
-use Prim.Native.Nat.{ℕ, zero, suc, _+_, _-_, _*_, _≤_, _<_}
+use mathlib.Core.Path.{_≡_, _∙_, sym}
+use mathlib.Core.Bool.{false, not}
+use mathlib.Core.List.{List}
+use Prim.Native.Nat.{ℕ, _+_, _*_, _≤_, _<_}
 use native.Mathlib.Nat.{add-zero}
 use native.Mathlib.Omega.{arith}
 use borrow.Author.Tests.{eq-eqb, ne-eqb, lt-ltb, le-ltb}
-use lib.Dec.{eqb, ltb}
+use lib.Dec.{eqb}
 use lib.ListN.{length, getD, drop, length-drop, List·getD-eq-default}
 use lib.Seq.{getD-drop, drop-drop}
-use Rattle.hex_rules.specs.Text.{lf, cr, inEnding}
-use Rattle.hex_rules.specs.Record.{colon, digitOf, isDigit, typeOf, countOf, badCount}
+use Rattle.hex_rules.specs.Text.{lf, cr}
+use Rattle.hex_rules.specs.Record.{colon, digitOf, typeOf, countOf, badCount}
 use Rattle.hex_line.specs.Internal.Reading.{byteOf, countAt, endingAt}
 
 -- the byte of two characters
@@ -51,7 +51,8 @@ module _ (text : List ℕ) (at : ℕ) where
           ne-eqb (getD (drop at text) 0 0) colon (λ e. h (sym (first text at) ∙ e)),
         )
 
-    pub count-both : getD text at 0 ≡ colon → (v : ℕ) → v ≡ byteOf (getD text (at + 1) 0) (getD text (at + 2) 0) → v ≡ countAt (drop at text)
+    pub count-both : getD text at 0 ≡ colon → (v : ℕ) → v ≡ byteOf (getD text (at + 1) 0) (getD text (at + 2) 0)
+        → v ≡ countAt (drop at text)
     unfolding countAt
     count-both h v e =
         simp (

@@ -1,11 +1,12 @@
 // Where a line starts and where it ends.
 ghost use mathlib.Core.Path.{_≡_};
 ghost use lib.ListN.{drop};
-ghost use Rattle.hex_line.specs.Internal.Reading.{countAt, endingAt};
+ghost use Rattle.hex_line.specs.Internal.Reading.{digitTable, countAt, endingAt};
 
 // The count of data bytes that the line at a place says, which starts with a colon and two digits; 256 where it doesn't, or where fewer
 // characters are left than the shortest record has.
-pub fn count_at(text: &[u8], at: usize) -> usize
+pub fn count_at(table: &[u8; 256], text: &[u8], at: usize) -> usize
+    requires { ⌜ now table ≡ digitTable ⌝ }
     ensures { λ r. ⌜ r ≡ countAt (drop at (now (text .entry))) ⌝ }
 {
     if text.len() <= at {
@@ -17,8 +18,8 @@ pub fn count_at(text: &[u8], at: usize) -> usize
     if text[at] != 0x3A {
         return 256;
     }
-    let high = crate::digits::digit_of(text[at + 1]);
-    let low = crate::digits::digit_of(text[at + 2]);
+    let high = crate::digits::digit_of(table, text[at + 1]);
+    let low = crate::digits::digit_of(table, text[at + 2]);
     if 15 < high {
         return 256;
     }

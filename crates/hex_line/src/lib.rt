@@ -39,7 +39,8 @@ fn bad_count(bytes: &[u8; 260]) -> bool
 pub fn line_at(text: &[u8], at: usize) -> Line
     ensures { λ r. ⌜ r ≡ lineAt (now (text .entry)) at ⌝ }
 {
-    let count = ends::count_at(text, at);
+    let table = digits::DIGITS;
+    let count = ends::count_at(&table, text, at);
     if 255 < count {
         return bad_line();
     }
@@ -53,7 +54,7 @@ pub fn line_at(text: &[u8], at: usize) -> Line
     if ending == 3 {
         return bad_line();
     }
-    let pairs = digits::pairs_of(&text[start..end]);
+    let pairs = digits::pairs_of(&table, &text[start..end]);
     if !pairs.good {
         return bad_line();
     }
@@ -61,9 +62,10 @@ pub fn line_at(text: &[u8], at: usize) -> Line
     if bad_count(&bytes) {
         return bad_line();
     }
+    let next = end + ending;
     Line {
         good: true,
-        next: end + ending,
+        next: next,
         bytes: bytes,
     }
 }

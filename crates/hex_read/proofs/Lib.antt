@@ -6,3 +6,7 @@ pub mod CellsFrom
 pub mod Marking
 pub mod GivenBytes
 pub mod Faults
+pub mod Filled
+pub mod Judged
+pub mod Walking
+pub mod Converts

@@ -2,3 +2,4 @@
 pub mod Marks
 pub mod Giving
 pub mod Judging
+pub mod Reads

@@ -1,13 +1,24 @@
 -- What each step of the reading finds. (For the private functions' contracts.)
 use Prim.Native.Nat.{ℕ, _+_, _*_}
-use mathlib.Core.Bool.{Bool, true, false, _&&_, cond}
-use mathlib.Core.List.{List}
+use mathlib.Core.Bool.{true, false, _&&_, cond}
+use mathlib.Core.List.{List, [], _∷_, _++_}
 use lib.Dec.{eqb, ltb}
 use lib.ListN.{length, getD, drop, replicate}
 use Rattle.hex_rules.specs.Text.{lf, inEnding}
 use Rattle.hex_rules.specs.Record.{colon, digitOf, isDigit, allDigits, pairsOf}
 use Rattle.hex_line.specs.declared.digits.Pairs.{Pairs}
 use Rattle.hex_line.specs.Internal.Lines.{filled}
+
+-- what each of the 256 characters stands for: 0 to 9 from 0x30 on, A to F from 0x41 on and a to f from 0x61 on, and 16 for those between
+unfoldable pub digitTable : List ℕ
+digitTable =
+    replicate 48 16
+    ++ ((0 ∷ 1 ∷ 2 ∷ 3 ∷ 4 ∷ 5 ∷ 6 ∷ 7 ∷ 8 ∷ 9 ∷ [])
+    ++ (replicate 7 16
+    ++ ((10 ∷ 11 ∷ 12 ∷ 13 ∷ 14 ∷ 15 ∷ [])
+    ++ (replicate 26 16
+    ++ ((10 ∷ 11 ∷ 12 ∷ 13 ∷ 14 ∷ 15 ∷ [])
+    ++ replicate 153 16)))))
 
 -- the bytes of digits, or that one of them is no digit
 unfoldable pub pairsRead : List ℕ → Pairs

@@ -5,11 +5,11 @@ use borrow.Author.Needs.{needs}
 use Rattle.hex_line.proofs.digits.digit_of.Statement.{statement}
 use Rattle.hex_line.proofs.digits.digit_of.Tie as tie
 
-array-read-result : tie.Need-array-read-result
-array-read-result c = search needs
+element-copy-out-result : tie.Need-element-copy-out-result
+element-copy-out-result c = search needs
 
 returns : tie.Need-returns
-returns c = in-table (c .args .c) (search needs)
+returns c = in-table (c .before .args .table .now) (c .before .args .c) (c .before .pre) (search needs)
 
 pub digit-of-spec : {M : Type 1} → statement M
-digit-of-spec = tie.close (tie.spec array-read-result returns)
+digit-of-spec = tie.close (tie.spec element-copy-out-result returns)

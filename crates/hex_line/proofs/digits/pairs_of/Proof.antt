@@ -9,10 +9,10 @@ use Rattle.hex_line.proofs.digits.pairs_of.Statement.{statement}
 use Rattle.hex_line.proofs.digits.pairs_of.Tie as tie
 
 abbrev Inv-loop : tie.InvT-loop
-Inv-loop digits bytes₀ i₀ bytes i = Done digits bytes i
+Inv-loop table digits bytes₀ i₀ bytes i = Done digits bytes i
 
 abbrev μ-loop : tie.MeasureT-loop
-μ-loop digits bytes₀ i₀ bytes i = length digits - 2 * i
+μ-loop table digits bytes₀ i₀ bytes i = length digits - 2 * i
 
 loop-holds : tie.Need-loop-holds Inv-loop μ-loop
 loop-holds c = done-start (c .before .args .digits .now)
@@ -45,15 +45,18 @@ returns : tie.Need-returns Inv-loop μ-loop
 returns c =
     let at = c .before .before .before .before .before .before in
     let s = at .before .before in
-    bad-high (s .args .digits .now) (at .loop .bytes) (at .loop .i) (at .loop .inv) (s .pre .0) (s .pre .1) (omega arith)
-    (c .before .before .before .digit-of .result) (c .before .before .before .digit-of .ensures) (c .if1 .taken)
+    let h = c .before .before .before .digit-of in
+    bad-high (s .args .digits .now) (at .loop .bytes) (at .loop .i) (at .loop .inv) (s .pre .1) (s .pre .2) (omega arith)
+    (h .result) (h .ensures) (c .if1 .taken)
 
 returns-2 : tie.Need-returns-2 Inv-loop μ-loop
 returns-2 c =
     let at = c .before .before .before .before .before .before .before in
     let s = at .before .before in
-    bad-low (s .args .digits .now) (at .loop .bytes) (at .loop .i) (at .loop .inv) (s .pre .0) (s .pre .1) (omega arith)
-    (c .before .before .before .before .digit-of .result) (c .before .before .digit-of2 .result) (c .before .before .before .before .digit-of .ensures) (c .before .before .digit-of2 .ensures) (omega arith) (c .if2 .taken)
+    let h = c .before .before .before .before .digit-of in
+    let l = c .before .before .digit-of2 in
+    bad-low (s .args .digits .now) (at .loop .bytes) (at .loop .i) (at .loop .inv) (s .pre .1) (s .pre .2) (omega arith)
+    (h .result) (l .result) (h .ensures) (l .ensures) (omega arith) (c .if2 .taken)
 
 mul-bytes : tie.Need-mul-bytes Inv-loop μ-loop
 mul-bytes c = omega arith
@@ -74,14 +77,16 @@ loop-again : tie.Need-loop-again Inv-loop μ-loop
 loop-again c =
     let at = c .before .before .before .before .before .before .before in
     let s = at .before .before in
-    turn (s .args .digits .now) (at .loop .bytes) (at .loop .i) (at .loop .inv) (s .pre .0) (s .pre .1) (omega arith)
-    (c .before .before .before .before .digit-of .result) (c .before .before .digit-of2 .result) (c .before .before .before .before .digit-of .ensures) (c .before .before .digit-of2 .ensures) (omega arith) (omega arith)
+    let h = c .before .before .before .before .digit-of in
+    let l = c .before .before .digit-of2 in
+    turn (s .args .digits .now) (at .loop .bytes) (at .loop .i) (at .loop .inv) (s .pre .1) (s .pre .2) (omega arith)
+    (h .result) (l .result) (h .ensures) (l .ensures) (omega arith) (omega arith)
 
 returns-3 : tie.Need-returns-3 Inv-loop μ-loop
 returns-3 c =
     let at = c .before in
     let s = at .before .before in
-    all-read (s .args .digits .now) (at .loop .bytes) (at .loop .i) (at .loop .inv) (s .pre .1) (omega arith)
+    all-read (s .args .digits .now) (at .loop .bytes) (at .loop .i) (at .loop .inv) (s .pre .2) (omega arith)
 
 pub pairs-of-spec : {M : Type 1} → statement M
 pairs-of-spec =

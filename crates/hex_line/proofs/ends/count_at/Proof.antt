@@ -13,13 +13,17 @@ sub-if2 : tie.Need-sub-if2
 sub-if2 c = search needs
 
 returns-2 : tie.Need-returns-2
-returns-2 c = count-short (c .before .before .before .args .text .now) (c .before .before .before .args .at) (omega arith)
+returns-2 c =
+    let a = c .before .before .before .args in
+    count-short (a .text .now) (a .at) (omega arith)
 
 shared-slice-read-if3 : tie.Need-shared-slice-read-if3
 shared-slice-read-if3 c = search needs
 
 returns-3 : tie.Need-returns-3
-returns-3 c = count-other (c .before .before .before .before .before .args .text .now) (c .before .before .before .before .before .args .at) (omega arith) (c .if3 .taken)
+returns-3 c =
+    let a = c .before .before .before .before .before .args in
+    count-other (a .text .now) (a .at) (omega arith) (c .if3 .taken)
 
 add-digit-of : tie.Need-add-digit-of
 add-digit-of c = search needs
@@ -41,13 +45,18 @@ digit-of-requires-2 c κs = search needs
 
 returns-4 : tie.Need-returns-4
 returns-4 c =
-    count-both (c .before .before .before .before .before .before .before .before .before .before .args .text .now) (c .before .before .before .before .before .before .before .before .before .before .args .at) (omega arith) (c .before .before .before .before .before .if3 .left) 256
-    (byte-high _ _ (omega (arith, c .before .before .before .digit-of .ensures)))
+    let a = c .before .before .before .before .before .before .before .before .before .before .args in
+    let h = c .before .before .before .digit-of in
+    count-both (a .text .now) (a .at) (omega arith) (c .before .before .before .before .before .if3 .left) 256
+    (byte-high _ _ (omega (arith, h .ensures)))
 
 returns-5 : tie.Need-returns-5
 returns-5 c =
-    count-both (c .before .before .before .before .before .before .before .before .before .before .before .args .text .now) (c .before .before .before .before .before .before .before .before .before .before .before .args .at) (omega arith) (c .before .before .before .before .before .before .if3 .left) 256
-    (byte-low _ _ (omega (arith, c .before .before .before .before .digit-of .ensures)) (omega (arith, c .before .before .digit-of2 .ensures)))
+    let a = c .before .before .before .before .before .before .before .before .before .before .before .args in
+    let h = c .before .before .before .before .digit-of in
+    let l = c .before .before .digit-of2 in
+    count-both (a .text .now) (a .at) (omega arith) (c .before .before .before .before .before .before .if3 .left) 256
+    (byte-low _ _ (omega (arith, h .ensures)) (omega (arith, l .ensures)))
 
 cast-result : tie.Need-cast-result
 cast-result c = search needs
@@ -63,8 +72,11 @@ add-result c = search needs
 
 returns-6 : tie.Need-returns-6
 returns-6 c =
-    count-both (c .before .before .before .before .before .before .before .before .before .before .before .args .text .now) (c .before .before .before .before .before .before .before .before .before .before .before .args .at) (omega arith) (c .before .before .before .before .before .before .if3 .left) _
-    (both _ _ _ _ (c .before .before .before .before .digit-of .ensures) (c .before .before .digit-of2 .ensures) (omega arith) (omega arith))
+    let a = c .before .before .before .before .before .before .before .before .before .before .before .args in
+    let h = c .before .before .before .before .digit-of in
+    let l = c .before .before .digit-of2 in
+    count-both (a .text .now) (a .at) (omega arith) (c .before .before .before .before .before .before .if3 .left) _
+    (both _ _ _ _ (h .ensures) (l .ensures) (omega arith) (omega arith))
 
 pub count-at-spec : {M : Type 1} → statement M
 count-at-spec =
