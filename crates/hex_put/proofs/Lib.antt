@@ -1,3 +1,4 @@
 pub mod Marking
 pub mod Putting
 pub mod Whole
+pub mod Tight

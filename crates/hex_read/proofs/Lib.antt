@@ -10,3 +10,4 @@ pub mod Filled
 pub mod Judged
 pub mod Walking
 pub mod Converts
+pub mod Tight

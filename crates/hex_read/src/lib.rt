@@ -11,7 +11,7 @@ use memory_address::Group;
 use memory_address::Module;
 
 // What reading a text comes to: its cells are in the table, or the refusal's number and line.
-pub enum Outcome {
+enum Outcome {
     Taken,
     Refused { number: u8, line: usize },
 }
