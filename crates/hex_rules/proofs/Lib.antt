@@ -10,3 +10,4 @@ pub mod PlainUpward
 pub mod PlainCells
 pub mod Once
 pub mod Upward
+pub mod Deciding

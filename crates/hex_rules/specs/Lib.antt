@@ -7,3 +7,4 @@ pub mod Converting
 pub mod Printing
 pub mod Holding
 pub mod Touching
+pub mod Deciding
