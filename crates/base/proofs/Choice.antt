@@ -31,6 +31,11 @@ pub either-true : (x y : Bool) → (x || y) ≡ true → (x ≡ true) ⊎ (y ≡
 either-true true y e = inl refl
 either-true false y e = inr e
 
+-- of two tests neither of which holds
+pub neither : (x y : Bool) → (x || y) ≡ false → (x ≡ false) × (y ≡ false)
+neither true y e = (e, cc)
+neither false y e = (refl, e)
+
 -- a test is true or false
 pub true-or-false : (b : Bool) → (b ≡ true) ⊎ (b ≡ false)
 true-or-false true = inl refl

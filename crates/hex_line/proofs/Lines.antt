@@ -15,6 +15,7 @@ use Rattle.base.proofs.Bytes.{byte-of}
 use Rattle.base.proofs.Choice.{cond-true, cond-false, true-or-false, both-true}
 use Rattle.hex_rules.specs.Text.{linesOf}
 use Rattle.hex_rules.specs.Record.{digitOf, isDigit, allDigits, pairsOf, recordOf, countOf, badDigit, badLength}
+use Rattle.hex_rules.proofs.Once.{pairs-bytes}
 use Rattle.hex_line.specs.declared.Line.{Line}
 use Rattle.hex_line.specs.Internal.Lines.{badLine, ending, filled, lineBy, lineAt}
 use Rattle.hex_line.proofs.Splitting.{Split, split-first, ending-length}
@@ -58,15 +59,7 @@ pub line-bad : (text : List ℕ) (at : ℕ) → at < length text → lineAt text
 unfolding lineAt
 line-bad text at k h = bad-first at (drop at text) (simp length-drop (omega arith)) h
 
--- pairs of digits are bytes, one for two
-pub pairs-bytes : (cs : List ℕ) → allDigits cs ≡ true → Bytes (pairsOf cs)
-pairs-bytes [] e = tt
-pairs-bytes (c ∷ []) e = tt
-pairs-bytes (c ∷ (d ∷ cs)) e =
-    let one = both-true (isDigit c) (isDigit d && allDigits cs) e in
-    let two = both-true (isDigit d) (allDigits cs) (one .1) in
-    (omega (arith, ltb-true (digitOf c) 16 (one .0), ltb-true (digitOf d) 16 (two .0)), pairs-bytes cs (two .1))
-
+-- two digits a byte
 pub pairs-length : (n : ℕ) (cs : List ℕ) → length cs ≡ 2 * n → length (pairsOf cs) ≡ n
 pairs-length zero [] e = refl
 pairs-length zero (c ∷ cs) e = absurd (omega arith)

@@ -11,10 +11,9 @@ use native.Mathlib.Omega.{arith}
 use lib.Dec.{leb, ltb}
 use lib.ListN.{length}
 use borrow.Author.Tests.{leb-true, le-leb, lt-ltb, le-ltb, not-false}
-use Rattle.base.proofs.Choice.{by-cond, cond-true, cond-false, both-true, true-both, true-or-false}
+use Rattle.base.proofs.Choice.{by-cond, cond-true, cond-false, both-true, true-both, true-or-false, neither}
 use Rattle.memory_address.specs.Rule.{rim, lastBlock, firstEepromRow, lastEepromRow}
 use Rattle.hex_rules.specs.Cells.{legalCell, cellsFrom, someOutside}
-use Rattle.hex_rules.proofs.Reading.{neither}
 use Rattle.hex_rules.proofs.LegalCells.{legal-cell-numbers, numbers-legal-cell}
 use Rattle.hex_read.specs.Internal.Marks.{placeOf}
 use Rattle.hex_read.specs.Internal.Giving.{indexOf}

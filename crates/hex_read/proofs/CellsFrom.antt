@@ -10,9 +10,8 @@ use lib.Dec.{eqb, lit<}
 use lib.ListN.{length, getD}
 use borrow.Author.Tests.{eq-eqb, ne-eqb}
 use Rattle.base.specs.Parts.{Bytes}
-use Rattle.base.proofs.Choice.{by-cond, cond-false}
+use Rattle.base.proofs.Choice.{by-cond, cond-false, neither}
 use Rattle.hex_rules.specs.Cells.{Cell, cellsFrom, givenAt, someTwice, byteAt}
-use Rattle.hex_rules.proofs.Reading.{neither}
 use Rattle.hex_rules.proofs.GivenCells.{given-append}
 use Rattle.hex_read.specs.Internal.Marks.{entryOf}
 

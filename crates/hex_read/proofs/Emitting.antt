@@ -18,11 +18,11 @@ use Rattle.recipe.specs.Items.{Item, block, row, addressBytes, printedItem, pri
 use Rattle.hex_rules.specs.Cells.{Cell, givenAt, byteAt, touched}
 use Rattle.hex_rules.specs.Recipe.{contents, itemAt, upward, itemsOf, recipeOf}
 use Rattle.hex_rules.specs.Converting.{bytesOf}
-use Rattle.hex_rules.proofs.EachItem.{blocksOf, rowsOf}
+use Rattle.hex_rules.proofs.EachItem.{blocksOf, rowsOf, printed-both}
 use Rattle.hex_put.specs.Internal.Table.{someMarked, lowBytes, touchedBytes, printedIn, bytesIn}
 use Rattle.hex_put.proofs.Whole.{blocks, rows}
 use Rattle.hex_read.specs.Internal.Marks.{Marks, placeOf, entryOf}
-use Rattle.hex_read.proofs.CellByCell.{touched-next, touched-none, byte-not-given}
+use Rattle.hex_rules.proofs.CellByCell.{touched-next, touched-none, byte-not-given}
 
 -- ---- one place
 
@@ -61,13 +61,6 @@ along-next : (k a n : ℕ) → Along k a (suc n) → Along (suc k) (suc a) n
 along-next k a n along = along-some k a (suc n) 1 (suc k) (suc a) n along (omega arith) (omega arith) (omega arith)
 
 -- ---- items
-
--- items in two lists are printed one list behind the other
-printed-both : (is js : List Item) → printedItems (is ++ js) ≡ printedItems is ++ printedItems js
-unfolding printedItems
-printed-both [] js = refl
-printed-both (i ∷ is) js =
-    ap (λ (t : List ℕ). printedItem i ++ t) (printed-both is js) ∙ sym (append-assoc (printedItem i) (printedItems is) (printedItems js))
 
 -- where there is one item or none
 printed-choice : (b : Bool) (i : Item) → printedItems (cond b (i ∷ []) []) ≡ cond b (printedItem i) []

@@ -11,12 +11,12 @@ use lib.Dec.{eqb}
 use lib.ListN.{length, drop, replicate}
 use Rattle.base.specs.Parts.{Bytes}
 use Rattle.base.proofs.Bytes.{bytes-take, bytes-drop}
-use Rattle.base.proofs.Choice.{cond-true, cond-false, true-or-false}
+use Rattle.base.proofs.Choice.{cond-true, cond-false, true-or-false, neither}
 use Rattle.base.proofs.Patched.{part-length}
 use Rattle.hex_rules.specs.Record.{recordOf, countOf, addressOf, typeOf, dataOf, upperOf, badDigit, badLength, badSum, otherType}
 use Rattle.hex_rules.specs.Cells.{Cell, cellsFrom, someOutside, someTwice}
 use Rattle.hex_rules.specs.Checks.{Given, cellsOf, faultAt, withRecord}
-use Rattle.hex_rules.proofs.Reading.{neither, fault-31, fault-32, fault-33, fault-34, fault-35, no-fault, faultless}
+use Rattle.hex_rules.proofs.Reading.{fault-31, fault-32, fault-33, fault-34, fault-35, no-fault, faultless}
 use Rattle.hex_read.specs.Internal.Marks.{Marks}
 use Rattle.hex_read.specs.Internal.Giving.{givingFault, withCells}
 use Rattle.hex_read.specs.Internal.Judging.{startOf, upperBehind, endFault, orElse, recordFault, recordTable}

@@ -1,5 +1,4 @@
 pub mod Storing
-pub mod CellByCell
 pub mod Emitting
 pub mod Area
 pub mod CellsFrom

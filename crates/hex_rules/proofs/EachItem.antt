@@ -1,9 +1,9 @@
 -- What holds of every item of a recipe of cells, and how many there are: an item stands only where one of its places is given, at the
 -- first place and then always its size on. One law for blocks and rows, by induction over how many there may be.
 -- Assumes nothing.
-use mathlib.Core.Path.{_≡_, refl, ap, _∙_}
+use mathlib.Core.Path.{_≡_, refl, sym, ap, _∙_}
 use mathlib.Core.Bool.{true}
-use mathlib.Core.List.{List, [], _∷_, _++_}
+use mathlib.Core.List.{List, [], _∷_, _++_, append-assoc}
 use Prim.Native.Nat.{ℕ, zero, suc, _+_, _*_, _≤_, _<_}
 use native.Mathlib.Omega.{arith}
 use lib.ListN.{length, getD, length-append}
@@ -48,16 +48,15 @@ pub each-append : (P : Item → Type 0) (is js : List Item) → Each P is → Ea
 each-append P [] js h k = k
 each-append P (i ∷ is) js h k = (h .0, each-append P is js (h .1) k)
 
-pub printed-append : (is js : List Item) → length (printedItems (is ++ js)) ≡ length (printedItems is) + length (printedItems js)
+-- items in two lists are printed one list behind the other
+pub printed-both : (is js : List Item) → printedItems (is ++ js) ≡ printedItems is ++ printedItems js
 unfolding printedItems
-printed-append [] js = omega arith
-printed-append (i ∷ is) js =
-    omega (
-      arith,
-      printed-append is js,
-      length-append (printedItem i) (printedItems (is ++ js)),
-      length-append (printedItem i) (printedItems is),
-    )
+printed-both [] js = refl
+printed-both (i ∷ is) js =
+    ap (λ (t : List ℕ). printedItem i ++ t) (printed-both is js) ∙ sym (append-assoc (printedItem i) (printedItems is) (printedItems js))
+
+pub printed-append : (is js : List Item) → length (printedItems (is ++ js)) ≡ length (printedItems is) + length (printedItems js)
+printed-append is js = ap length (printed-both is js) ∙ length-append (printedItems is) (printedItems js)
 
 module _ (item : ℕ → List ℕ → Item) (size : ℕ) (cells : List Cell) where
   -- what holds of the item of each touched part holds of every item

@@ -8,10 +8,9 @@ use mathlib.Core.Logic.{⊎-elim}
 use Prim.Native.Nat.{ℕ, _+_, _≤_, _<_}
 use lib.Dec.{eqb, leb, ltb, lit<}
 use borrow.Author.Tests.{leb-true, ltb-true, eqb-true, le-leb, lt-ltb, eq-eqb}
-use Rattle.base.proofs.Choice.{by-cond, both-true, either-true}
+use Rattle.base.proofs.Choice.{by-cond, both-true, either-true, neither}
 use Rattle.hex_rules.specs.Cells.{Cell, legalCell, givenAt, byteAt, touched}
 use Rattle.hex_rules.specs.Printing.{EachOnce}
-use Rattle.hex_rules.proofs.Reading.{neither}
 
 -- a place is given by two lists if one of them gives it
 pub given-append : (xs ys : List Cell) (a : ℕ) → givenAt (xs ++ ys) a ≡ (givenAt xs a || givenAt ys a)

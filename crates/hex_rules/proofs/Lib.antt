@@ -4,6 +4,7 @@ pub mod PrintedLine
 pub mod RoundTrip
 pub mod LegalCells
 pub mod GivenCells
+pub mod CellByCell
 pub mod EachItem
 pub mod MadeLegal
 pub mod PlainUpward
@@ -11,3 +12,4 @@ pub mod PlainCells
 pub mod Once
 pub mod Upward
 pub mod Deciding
+pub mod Examples

@@ -11,18 +11,18 @@ use lib.ListN.{drop}
 use borrow.Author.Tests.{ltb-true, not-false, ne-eqb}
 use Rattle.base.specs.Parts.{Bytes}
 use Rattle.base.proofs.Bytes.{bytes-part}
-use Rattle.base.proofs.Choice.{by-cond, both-true}
+use Rattle.base.proofs.Choice.{by-cond, both-true, neither}
 use Rattle.hex_rules.specs.Text.{linesOf}
 use Rattle.hex_rules.specs.Record.{digitOf, isDigit, allDigits, pairsOf, recordOf, countOf, addressOf, typeOf, dataOf, badDigit}
 use Rattle.hex_rules.specs.Cells.{Cell, cellsFrom, legalCell, givenAt, someOutside, someTwice}
 use Rattle.hex_rules.specs.Checks.{Given, Read, gives, refused, nothing, cellsOf, faultAt, withRecord, linesRead}
 use Rattle.hex_rules.specs.Converting.{textRead}
 use Rattle.hex_rules.specs.Printing.{EachOnce}
-use Rattle.hex_rules.proofs.Reading.{neither, Faultless, faultless, read-on, read-fault, read-end}
+use Rattle.hex_rules.proofs.Reading.{Faultless, faultless, read-on, read-fault, read-end}
 use Rattle.hex_rules.proofs.GivenCells.{given-append, once-append}
 
 -- two digits make a byte
-pairs-bytes : (cs : List ℕ) → allDigits cs ≡ true → Bytes (pairsOf cs)
+pub pairs-bytes : (cs : List ℕ) → allDigits cs ≡ true → Bytes (pairsOf cs)
 pairs-bytes [] h = tt
 pairs-bytes (c ∷ []) h = tt
 pairs-bytes (c ∷ d ∷ cs) h =

@@ -8,6 +8,7 @@ use mathlib.Core.List.{List, [], _∷_}
 use Prim.Native.Nat.{ℕ, suc}
 use native.Mathlib.Omega.{arith}
 use borrow.Author.Tests.{eq-eqb, ne-eqb}
+use Rattle.base.proofs.Choice.{neither}
 use Rattle.hex_rules.specs.Record.{recordOf, badDigit, badLength, badSum, otherType}
 use Rattle.hex_rules.specs.Cells.{someOutside, someTwice}
 use Rattle.hex_rules.specs.Checks.{Given, cellsOf, rulesAt, faultAt, withRecord, refused, atTheEnd, linesRead}
@@ -26,11 +27,6 @@ pub record Faultless (g : Given) (line : List ℕ) : Type 0 where
 past : (b : Bool) (n x : ℕ) → cond b (suc n) x ≡ 0 → (b ≡ false) × (x ≡ 0)
 past true n x e = absurd (omega arith)
 past false n x e = (refl, e)
-
--- of two conditions neither of which holds
-pub neither : (x y : Bool) → (x || y) ≡ false → (x ≡ false) × (y ≡ false)
-neither true y e = (e, cc)
-neither false y e = (refl, e)
 
 module _ (g : Given) (line : List ℕ) where
   -- "bad digit or length"

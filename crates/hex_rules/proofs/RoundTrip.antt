@@ -10,7 +10,7 @@ use Prim.Native.Nat.{ℕ, suc, _+_, _-_, _*_, _/_, _%_, _≤_, _<_}
 use native.Mathlib.Omega.{arith}
 use lib.ListN.{length}
 use borrow.Author.Tests.{not-false}
-use Rattle.base.proofs.Choice.{either-true}
+use Rattle.base.proofs.Choice.{either-true, neither}
 use Rattle.base.specs.Parts.{Bytes}
 use Rattle.memory_address.specs.Rule.{legalFlash, legalEeprom}
 use Rattle.memory_address.proofs.Laws.{flash-within, eeprom-within}
@@ -20,7 +20,7 @@ use Rattle.hex_rules.specs.Checks.{Given, nothing, cellsOf, withRecord, 
 use Rattle.hex_rules.specs.Converting.{textRead}
 use Rattle.hex_rules.specs.Printing.{Run, unsummed, summed, lineOf, runsLines, printedRuns}
 use Rattle.hex_rules.specs.Printing.{runCells, Printable, singly, EachOnce}
-use Rattle.hex_rules.proofs.Reading.{neither, no-fault, read-on, read-end}
+use Rattle.hex_rules.proofs.Reading.{no-fault, read-on, read-end}
 use Rattle.hex_rules.proofs.LinesOfText.{AllUnbroken, lines-of-text}
 use Rattle.hex_rules.proofs.PrintedLine.{line-unbroken, record-back, address-back, data-back, unsummed-bytes}
 use Rattle.hex_rules.proofs.PrintedLine.{sum-right, digits-right, length-right}

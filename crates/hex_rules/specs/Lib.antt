@@ -8,3 +8,4 @@ pub mod Printing
 pub mod Holding
 pub mod Touching
 pub mod Deciding
+pub mod Examples

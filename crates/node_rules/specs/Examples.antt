@@ -8,8 +8,6 @@ use lib.ListN.{take, replicate}
 use Rattle.base.specs.Parts.{patch, sumOf}
 use Rattle.memory_address.specs.Places.{full}
 use Rattle.memory_address.specs.Ranges.{FlashRow, EepromRow, Block}
-use Rattle.memory_address.specs.declared.FlashAddress.{FlashAddress}
-use Rattle.memory_address.specs.declared.EepromPlace.{EepromPlace}
 use Rattle.memory_address.specs.declared.Address.{Address}
 use Rattle.memory_address.specs.declared.Address.the-variants.{Flash, Eeprom}
 use Rattle.node_rules.specs.declared.Pin.{Pin}

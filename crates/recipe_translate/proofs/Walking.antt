@@ -1,7 +1,7 @@
 -- What the loops over a recipe keep: the reading from the start is what was read so far, and then the reading from the cursor on.
 -- Assumes nothing.
 use mathlib.Core.Path.{_≡_, refl, sym, ap, ap₂, _∙_}
-use mathlib.Core.Bool.{Bool, true, false, _||_}
+use mathlib.Core.Bool.{Bool, true, false}
 use mathlib.Core.List.{List, [], _∷_, _++_}
 use mathlib.Core.Logic.{_⊎_, inl, inr, ⊎-elim}
 use Prim.Native.Nat.{ℕ, suc, _+_, _-_, _*_, _≤_, _<_, zero-le}
@@ -11,7 +11,7 @@ use lib.Dec.{eqb}
 use lib.ListN.{length, drop, length-drop}
 use lib.Seq.{drop-drop}
 use borrow.Author.Tests.{eqb-true}
-use Rattle.base.proofs.Choice.{by-cond, true-or-false}
+use Rattle.base.proofs.Choice.{by-cond, neither, true-or-false}
 use Rattle.recipe_item.specs.Internal.Emitted.{framesOfKind}
 use Rattle.recipe.specs.declared.Translated.the-variants.{Frames, Refused}
 use Rattle.recipe.specs.Items.{Item}
@@ -81,10 +81,6 @@ module _ (s : List ℕ) (c : Cursor) (few : c .number ≤ 2049) where
       ∙ q))
       ∙ ap (λ (k : ℕ). record { items = []; stop = fault k (c .place) }) (sym e)
 
-neither : (x y : Bool) → (x || y) ≡ false → x ≡ false
-neither true y e = e
-neither false y e = refl
-
 module _ (s : List ℕ) (c : Cursor) (at : AtItem s c) where
   -- an item without fault is not item 2,049
   fewer : c .number ≤ 2048
@@ -94,7 +90,7 @@ module _ (s : List ℕ) (c : Cursor) (at : AtItem s c) where
 
   -- nor behind Leave
   pub not-ended : c .ended ≡ false
-  not-ended = neither (c .ended) _ (faultless (drop (c .place) s) (c .number) (c .ended) (at .faultless) .inPlace)
+  not-ended = neither (c .ended) _ (faultless (drop (c .place) s) (c .number) (c .ended) (at .faultless) .inPlace) .0
 
   -- and lies within the input
   item-inside : c .place + sizeOf (drop (c .place) s) ≤ length s

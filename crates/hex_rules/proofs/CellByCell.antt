@@ -9,9 +9,8 @@ use Prim.Native.Nat.{ℕ, suc, _+_}
 use native.Mathlib.Omega.{arith}
 use lib.Dec.{eqb, leb, ltb}
 use borrow.Author.Tests.{eqb-true, eqb-false, leb-true, leb-false, le-leb, lt-leb, lt-ltb, le-ltb}
-use Rattle.base.proofs.Choice.{cond-false, true-or-false}
+use Rattle.base.proofs.Choice.{cond-false, true-or-false, neither}
 use Rattle.hex_rules.specs.Cells.{Cell, givenAt, byteAt, touched}
-use Rattle.hex_rules.proofs.Reading.{neither}
 
 -- a place that is not a lies from a on if it lies behind a
 not-first : (p a : ℕ) → (p ≡ a → ⊥) → leb a p ≡ leb (suc a) p

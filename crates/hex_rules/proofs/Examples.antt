@@ -1,0 +1,31 @@
+-- The table of examples, computed; and that the premises of the theorems about printed runs and about a first bad line can be met.
+-- Assumes nothing.
+use mathlib.Core.Path.{_≡_, refl}
+use mathlib.Core.List.{List, [], _∷_}
+use Prim.Native.Nat.{ℕ}
+use native.Mathlib.Nat.{suc-ne-zero}
+use lib.Dec.{lit<, lit≤}
+use Rattle.memory_address.specs.Rule.{ruled}
+use Rattle.hex_rules.specs.Text.{linesOf}
+use Rattle.hex_rules.specs.Record.{digitOf, badDigit, badLength, badSum}
+use Rattle.hex_rules.specs.Cells.{legalCell}
+use Rattle.hex_rules.specs.Checks.{nothing, linesRead, faultAt, rulesAt, withRecord}
+use Rattle.hex_rules.specs.Deciding.{FirstBad, NoneBad}
+use Rattle.hex_rules.specs.Converting.{textRead}
+use Rattle.hex_rules.specs.Printing.{Printable, textOf, printedRuns}
+use Rattle.hex_rules.specs.Examples.{examples, AllRead, flashRun, eepromRun, endLine, badSumLine}
+
+pub examples-hold : AllRead examples
+unfolding examples textRead linesRead linesOf faultAt rulesAt withRecord digitOf badDigit badLength badSum legalCell ruled printedRuns
+examples-hold =
+    (refl, (refl, (refl, (refl, (refl, (refl, (refl, (refl, (refl, (refl, (refl, (refl, tt))))))))))))
+
+-- runs that can be printed
+printable-met : Printable [] (flashRun ∷ eepromRun ∷ [])
+unfolding legalCell ruled
+printable-met = (lit≤ tt, (lit< tt, (lit< tt, tt)), refl, refl, (lit≤ tt, (lit< tt, tt), refl, refl, tt))
+
+-- a first bad line: behind an end record, which is without fault, a record with a wrong sum
+first-bad-met : FirstBad (textOf (endLine ∷ badSumLine ∷ [])) (endLine ∷ []) badSumLine (withRecord nothing (0 ∷ 0 ∷ 0 ∷ 1 ∷ 255 ∷ []))
+unfolding linesOf faultAt rulesAt withRecord digitOf badDigit badLength badSum legalCell
+first-bad-met = record { behind = []; lines = refl; gave = (refl, refl); bad = suc-ne-zero 30 }
