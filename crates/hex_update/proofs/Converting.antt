@@ -13,7 +13,7 @@ use lib.ListN.{length, take, drop}
 use lib.Seq.{take-append-seam, drop-append-seam}
 use borrow.Author.Tests.{lt-ltb, le-ltb, ltb-true, ltb-false}
 use Rattle.base.proofs.Choice.{cond-true, cond-false, true-or-false}
-use Rattle.recipe.specs.Items.{Legal, printed}
+use Rattle.recipe.specs.Items.{Recipe, Legal, printed}
 use Rattle.hex_rules.specs.declared.Converted.{Converted}
 use Rattle.hex_rules.specs.declared.Converted.the-variants.{Made, Refused}
 use Rattle.hex_rules.specs.Text.{linesOf}
@@ -147,9 +147,15 @@ module _ {text before after : List ℕ} {m g : ℕ} {c : Converted} (converts : 
                     ∙ ap (λ (k : ℕ). drop k before) (sym n);
               }
 
-  -- it is a legal recipe
-  pub convert-legal : (size : ℕ) (e : c ≡ Made size) → m < 256 → g < 256 → Legal (recipeOf m g (convert-made size e .cells))
-  convert-legal size e hm hg = let k = convert-made size e in made-legal m g (k .cells) hm hg (k .once)
+  -- what was made is a legal recipe, by the recipe's own definition
+  pub convert-legal : (size : ℕ) → c ≡ Made size → m < 256 → g < 256 → (q : Recipe) × (take size after ≡ printed q) × Legal q
+  convert-legal size e hm hg =
+      let k = convert-made size e in
+      (recipeOf m g (k .cells), k .bytes, made-legal m g (k .cells) hm hg (k .once))
+
+  -- a text gives no other cells than those
+  pub same-cells : (size : ℕ) (k : MadeOf text m g before size after) (cells : List Cell) → textRead text ≡ gives cells → k .cells ≡ cells
+  same-cells size k cells e = let x = sym (k .read) ∙ e in cc
 
   -- printed cells of the legal areas, each given once, are read back: as runs of up to 255 bytes, and one by one
   pub convert-runs-back : (rs : List Run) → Printable [] rs → text ≡ printedRuns rs → length (bytesOf m g (runCells rs)) ≤ length before
