@@ -2,11 +2,13 @@
 use Prim.Native.Nat.{ℕ}
 use mathlib.Core.Path.{_≡_}
 use mathlib.Core.List.{List, [], _∷_, _++_}
+use lib.ListN.{drop}
 use Rattle.hex_rules.specs.Text.{cr, lf}
 use Rattle.hex_rules.specs.Record.{colon}
 use Rattle.hex_rules.specs.Cells.{Cell}
 use Rattle.hex_rules.specs.Checks.{Read, gives, refused}
-use Rattle.hex_rules.specs.Converting.{textRead}
+use Rattle.hex_rules.specs.declared.Converted.the-variants.{Made, Refused}
+use Rattle.hex_rules.specs.Converting.{textRead, converted, convertedOutput}
 use Rattle.hex_rules.specs.Printing.{Run, pairs, unsummed, lineOf, runLines, textOf, printedRuns}
 
 -- a text, and what it is read as
@@ -34,6 +36,21 @@ endLine = lineOf (unsummed 0 0x01 [])
 abbrev pub smallEnd : List ℕ
 smallEnd = colon ∷ (pairs (0x00 ∷ 0x00 ∷ 0x00 ∷ 0x01 ∷ []) ++ (0x66 ∷ 0x46 ∷ []))
 
+-- three cells in small letters: AB, CD, EF from 0x001000 on
+abbrev pub smallCells : List ℕ
+smallCells =
+    colon ∷ (pairs (0x03 ∷ 0x10 ∷ 0x00 ∷ 0x00 ∷ []) ++ ((0x61 ∷ 0x62 ∷ 0x63 ∷ 0x64 ∷ 0x65 ∷ 0x66 ∷ []) ++ pairs (0x86 ∷ [])))
+
+-- an end record with data, and type 04 with one byte and with three
+abbrev pub endWithData : List ℕ
+endWithData = lineOf (unsummed 0 0x01 (0x00 ∷ []))
+
+abbrev pub shortUpper : List ℕ
+shortUpper = lineOf (unsummed 0 0x04 (0x00 ∷ []))
+
+abbrev pub longUpper : List ℕ
+longUpper = lineOf (unsummed 0 0x04 (0x00 ∷ 0x00 ∷ 0x00 ∷ []))
+
 -- a record whose last byte is not the sum, and one of another type
 abbrev pub badSumLine : List ℕ
 badSumLine = colon ∷ pairs (0x00 ∷ 0x00 ∷ 0x00 ∷ 0x01 ∷ 0xFE ∷ [])
@@ -41,7 +58,7 @@ badSumLine = colon ∷ pairs (0x00 ∷ 0x00 ∷ 0x00 ∷ 0x01 ∷ 0xFE ∷ [])
 abbrev pub startLine : List ℕ
 startLine = lineOf (unsummed 0 0x05 (0x00 ∷ 0x00 ∷ 0x10 ∷ 0x00 ∷ []))
 
--- in the order of the numbers; the second taken text has no LF behind its last line, the third a CR LF
+-- in the order of the numbers; the second taken text has no LF behind its last line, the third a CR LF, the fourth is in small letters
 unfoldable pub examples : List Example
 examples =
     record {
@@ -50,8 +67,17 @@ examples =
     }
     ∷ record { text = textOf (runLines flashRun) ++ endLine; read = gives (cell 0x00103F 0xAA ∷ cell 0x001040 0xBB ∷ []) }
     ∷ record { text = smallEnd ++ (cr ∷ lf ∷ []); read = gives [] }
+    ∷ record {
+      text = textOf (smallCells ∷ smallEnd ∷ []);
+      read = gives (cell 0x001000 0xAB ∷ cell 0x001001 0xCD ∷ cell 0x001002 0xEF ∷ []);
+    }
     ∷ record { text = smallEnd ++ (cr ∷ []); read = refused 30 1 }
     ∷ record { text = textOf (endLine ∷ [] ∷ []); read = refused 30 2 }
+    ∷ record { text = drop 1 endLine; read = refused 30 1 }
+    ∷ record { text = endLine ++ (0x30 ∷ []); read = refused 30 1 }
+    ∷ record { text = textOf (endWithData ∷ []); read = refused 30 1 }
+    ∷ record { text = textOf (shortUpper ∷ endLine ∷ []); read = refused 30 1 }
+    ∷ record { text = textOf (longUpper ∷ endLine ∷ []); read = refused 30 1 }
     ∷ record { text = textOf (badSumLine ∷ []); read = refused 31 1 }
     ∷ record { text = textOf (startLine ∷ endLine ∷ []); read = refused 32 1 }
     ∷ record { text = printedRuns (loaderRun ∷ []); read = refused 33 2 }
@@ -64,3 +90,13 @@ examples =
 abbrev pub AllRead : List Example → Type 0
 AllRead [] = Unit {0}
 AllRead (e ∷ es) = (textRead (e .text) ≡ e .read) × AllRead es
+
+-- a text without cells, for module 05 and group 0A: its recipe is Open and Leave, four bytes. With room for them, and with one byte less.
+abbrev pub endText : List ℕ
+endText = textOf (endLine ∷ [])
+
+pub record Answered : Type 0 where
+  pub made : converted endText 0x05 0x0A 4 ≡ Made 4
+  pub short : converted endText 0x05 0x0A 3 ≡ Refused 26 0
+  pub output : convertedOutput endText 0x05 0x0A (9 ∷ 9 ∷ 9 ∷ 9 ∷ 9 ∷ []) ≡ 0x01 ∷ 0x05 ∷ 0x0A ∷ 0x0F ∷ 9 ∷ []
+  pub untouched : convertedOutput endText 0x05 0x0A (9 ∷ 9 ∷ 9 ∷ []) ≡ 9 ∷ 9 ∷ 9 ∷ []
