@@ -1,0 +1,2 @@
+pub mod HasRoom
+pub mod Numbers
