@@ -1,16 +1,30 @@
 -- Marks and bytes of places, one by one and as parts.
 -- Assumes nothing.
 use mathlib.Core.Path.{_≡_, _∙_, refl, sym, ap}
-use mathlib.Core.Bool.{Bool, true, false, _||_}
+use mathlib.Core.Bool.{Bool, true, false, _||_, or-assoc, or-false}
 use mathlib.Core.List.{List, [], _∷_}
-use Prim.Native.Nat.{ℕ, zero, suc, _+_, _%_, _≤_, _<_}
+use Prim.Native.Nat.{ℕ, zero, suc, _%_, _≤_, _<_}
 use native.Mathlib.Nat.{le-of-suc-le-suc, not-suc-le-zero}
-use native.Mathlib.Omega.{arith}
 use lib.Dec.{ltb}
 use lib.ListN.{length, getD, drop, drop-of-length-le}
 use lib.Seq.{drop-cons}
 use borrow.Author.Tests.{lt-ltb, le-ltb}
 use Rattle.hex_put.specs.Internal.Table.{someMarked, lowBytes}
+
+-- what is known of the places before i, and of those from there on: one place more
+pub one-more : (places : List ℕ) (i : ℕ) (before more : Bool) → i < length places → more ≡ (before || ltb 255 (getD places i 0))
+    → someMarked places ≡ (before || someMarked (drop i places)) → someMarked places ≡ (more || someMarked (drop (suc i) places))
+one-more places i before more h m e =
+    e
+    ∙ ap (λ (l : List ℕ). before || someMarked l) (drop-cons places i 0 h)
+    ∙ sym (or-assoc before (ltb 255 (getD places i 0)) (someMarked (drop (suc i) places)))
+    ∙ ap (λ (b : Bool). b || someMarked (drop (suc i) places)) (sym m)
+
+-- and behind the last
+pub all-looked-at : (places : List ℕ) (i : ℕ) (marked : Bool) → length places ≤ i
+    → someMarked places ≡ (marked || someMarked (drop i places)) → marked ≡ someMarked places
+all-looked-at places i marked h e =
+    sym (e ∙ ap (λ (l : List ℕ). marked || someMarked l) (drop-of-length-le places {i = i} h) ∙ or-false marked)
 
 -- a marked place among those from i on
 pub marked-here : (places : List ℕ) (i : ℕ) → i < length places → 255 < getD places i 0 → someMarked places ≡ someMarked (drop i places)

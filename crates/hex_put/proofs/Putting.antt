@@ -2,7 +2,7 @@
 -- Assumes nothing.
 use mathlib.Core.Path.{_≡_, _∙_, refl, sym, ap, ap₂}
 use mathlib.Core.Bool.{true, false}
-use mathlib.Core.List.{List, [], _∷_, _++_}
+use mathlib.Core.List.{List, [], _++_}
 use Prim.Native.Nat.{ℕ, zero, suc, _+_, _-_, _*_, _≤_, _<_}
 use native.Mathlib.Omega.{arith}
 use native.Mathlib.Nat.{mul-le-mul-right}
@@ -10,8 +10,8 @@ use lib.ListN.{length, take, drop, length-append}
 use Rattle.base.specs.Parts.{part, patch}
 use Rattle.base.specs.Internal.Putting.{putAt}
 use Rattle.base.proofs.Choice.{cond-true, cond-false, by-cond}
-use Rattle.base.proofs.Patched.{part-length, put-back, put-fits, length-patch}
-use Rattle.recipe_item.proofs.Putting.{patch-patch, patch-none, Sent, sent-start, sent-more, sent-end, sent-long}
+use Rattle.base.proofs.Patched.{put-back, put-fits}
+use Rattle.recipe_item.proofs.Putting.{patch-patch, Sent, sent-start, sent-more, sent-end, sent-long}
 use Rattle.hex_put.specs.Internal.Table.{someMarked, lowBytes, itemBytes, touchedBytes, printedIn}
 use Rattle.hex_put.proofs.Marking.{low-length}
 

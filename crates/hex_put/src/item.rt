@@ -1,22 +1,33 @@
 // One item: whether a place of it is marked, and its bytes.
+ghost use mathlib.Core.Bool.{_||_};
 ghost use mathlib.Core.Path.{_≡_};
+ghost use lib.Dec.{ltb};
 ghost use Prim.Native.Nat.{_+_, _≤_};
 ghost use lib.ListN.{length};
 ghost use Rattle.base.specs.Parts.{patch};
 ghost use Rattle.hex_put.specs.Internal.Table.{someMarked, lowBytes, itemBytes, touchedBytes};
 
-// Whether one of these places is marked.
+// Whether a place before was marked, or this one is.
+fn or_marked(before: bool, place: u16) -> bool
+    ensures { λ r. ⌜ r ≡ (before || ltb 255 place) ⌝ }
+{
+    if before {
+        return true;
+    }
+    place > 255
+}
+
+// Whether one of these places is marked. All are looked at: so the compiler takes several at once.
 fn is_touched(places: &[u16]) -> bool
     ensures { λ r. ⌜ r ≡ someMarked (now (places .entry)) ⌝ }
 {
+    let mut marked = false;
     let mut i: usize = 0;
     while i < places.len() {
-        if places[i] > 255 {
-            return true;
-        }
+        marked = or_marked(marked, places[i]);
         i += 1;
     }
-    false
+    marked
 }
 
 // Puts the bytes of these places.

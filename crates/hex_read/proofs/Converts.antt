@@ -2,20 +2,18 @@
 -- Assumes nothing.
 use mathlib.Core.Path.{_≡_, _∙_, sym, ap, ap₂, subst}
 use mathlib.Core.Bool.{Bool, true, false, _&&_, cond}
-use mathlib.Core.List.{List, [], _∷_, _++_}
+use mathlib.Core.List.{List, _++_}
 use mathlib.Core.Logic.{_⊎_, inl, inr, ⊎-elim}
 use Prim.Native.Nat.{ℕ, _+_, _≤_, _<_}
 use native.Mathlib.Omega.{arith}
 use lib.Dec.{eqb, leb, ltb}
 use lib.ListN.{length, drop}
-use borrow.Author.Tests.{eq-eqb, le-leb, lt-leb, lt-ltb, le-ltb, leb-true, ltb-false, leb-false}
+use borrow.Author.Tests.{eq-eqb, le-leb, lt-leb, lt-ltb, le-ltb, leb-true, leb-false}
 use Rattle.base.proofs.Choice.{cond-true, cond-false, true-or-false, true-both}
-use Rattle.recipe.specs.Items.{printedItems}
 use Rattle.hex_rules.specs.declared.Converted.{Converted}
 use Rattle.hex_rules.specs.declared.Converted.the-variants.{Made, Refused}
 use Rattle.hex_rules.specs.Cells.{Cell}
 use Rattle.hex_rules.specs.Checks.{Read, gives, refused}
-use Rattle.hex_rules.specs.Recipe.{itemsOf}
 use Rattle.hex_rules.specs.Converting.{textRead, bytesOf, answered, converted, outputBy, convertedOutput}
 use Rattle.hex_rules.proofs.MadeLegal.{printed-size}
 use Rattle.hex_put.specs.Internal.Table.{bytesIn, putLength, putOutput}

@@ -3,7 +3,7 @@
 -- Assumes nothing.
 use mathlib.Core.Path.{_≡_, _∙_, refl, sym, ap, ap₂, subst}
 use mathlib.Core.Bool.{Bool, true, false, _||_, cond, false≢true}
-use mathlib.Core.List.{List, [], _∷_, _++_, append-nil}
+use mathlib.Core.List.{List, [], _++_, append-nil}
 use mathlib.Core.Logic.{_⊎_, inl, inr, ⊎-elim}
 use Prim.Native.Nat.{ℕ, _+_, _*_, _≤_}
 use native.Mathlib.Omega.{arith}
@@ -13,7 +13,7 @@ use Rattle.base.specs.Parts.{Bytes}
 use Rattle.base.proofs.Bytes.{bytes-take, bytes-drop}
 use Rattle.base.proofs.Choice.{cond-true, cond-false, true-or-false, neither}
 use Rattle.base.proofs.Patched.{part-length}
-use Rattle.hex_rules.specs.Record.{recordOf, countOf, addressOf, typeOf, dataOf, upperOf, badDigit, badLength, badSum, otherType}
+use Rattle.hex_rules.specs.Record.{recordOf, countOf, typeOf, dataOf, upperOf, badDigit, badLength, badSum, otherType}
 use Rattle.hex_rules.specs.Cells.{Cell, cellsFrom, someOutside, someTwice}
 use Rattle.hex_rules.specs.Checks.{Given, cellsOf, faultAt, withRecord}
 use Rattle.hex_rules.proofs.Reading.{fault-31, fault-32, fault-33, fault-34, fault-35, no-fault, faultless}
@@ -21,7 +21,7 @@ use Rattle.hex_read.specs.Internal.Marks.{Marks}
 use Rattle.hex_read.specs.Internal.Giving.{givingFault, withCells}
 use Rattle.hex_read.specs.Internal.Judging.{startOf, upperBehind, endFault, orElse, recordFault, recordTable}
 use Rattle.hex_read.proofs.GivenBytes.{fault-numbers, given-33, given-34, marks-given}
-use Rattle.hex_read.proofs.Filled.{filled-count, filled-type, filled-address, filled-upper, filled-other, filled-data, filled-whole}
+use Rattle.hex_read.proofs.Filled.{filled-type, filled-address, filled-upper, filled-other, filled-data, filled-whole}
 
 -- the number by the record itself
 abbrev judge : List ℕ → ℕ → Bool → List ℕ → ℕ

@@ -1,20 +1,20 @@
 -- What the loop over a text's lines keeps: the text is read as the lines from here on behind what is given, which the table marks.
 -- Assumes nothing.
-use mathlib.Core.Path.{_≡_, _∙_, refl, sym, ap, ap₂, subst}
+use mathlib.Core.Path.{_≡_, _∙_, refl, sym, ap, subst}
 use mathlib.Core.Bool.{Bool, true, false, cond}
-use mathlib.Core.List.{List, [], _∷_, _++_}
+use mathlib.Core.List.{List, [], _∷_}
 use Prim.Native.Nat.{ℕ, suc, _+_, _-_, _≤_, _<_}
 use native.Mathlib.Omega.{arith}
 use lib.Dec.{eqb}
 use lib.ListN.{length, getD, drop, replicate, drop-of-length-le}
 use Rattle.hex_rules.specs.Text.{linesOf}
 use Rattle.hex_rules.specs.Record.{recordOf, typeOf}
-use Rattle.hex_rules.specs.Checks.{Given, nothing, Read, gives, refused, faultAt, withRecord, atTheEnd, linesRead}
+use Rattle.hex_rules.specs.Checks.{Given, nothing, gives, refused, faultAt, withRecord, atTheEnd, linesRead}
 use Rattle.hex_rules.specs.Converting.{textRead}
 use Rattle.hex_rules.proofs.Reading.{read-on, read-fault, read-end, fault-30}
 use Rattle.hex_line.specs.declared.Line.{Line}
 use Rattle.hex_line.specs.Internal.Lines.{lineAt}
-use Rattle.hex_line.proofs.Lines.{BadLine, GoodLine, line-bad, line-good}
+use Rattle.hex_line.proofs.Lines.{GoodLine, line-bad, line-good}
 use Rattle.hex_read.specs.Internal.Marks.{Marks}
 use Rattle.hex_read.specs.Internal.Judging.{upperBehind, recordFault, recordTable}
 use Rattle.hex_read.specs.Internal.Reads.{Marked}

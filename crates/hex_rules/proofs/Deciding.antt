@@ -12,7 +12,7 @@ use borrow.Author.Tests.{eqb-true, eqb-false}
 use Rattle.base.proofs.Choice.{true-or-false}
 use Rattle.hex_rules.specs.Text.{linesOf}
 use Rattle.hex_rules.specs.Record.{recordOf}
-use Rattle.hex_rules.specs.Checks.{Given, nothing, faultAt, withRecord, Read, gives, refused, atTheEnd, linesRead}
+use Rattle.hex_rules.specs.Checks.{Given, nothing, faultAt, withRecord, refused, atTheEnd, linesRead}
 use Rattle.hex_rules.specs.Converting.{textRead}
 use Rattle.hex_rules.specs.Deciding.{Gave, FirstBad, NoneBad}
 use Rattle.hex_rules.proofs.Reading.{read-on, read-fault, read-end}

@@ -1,8 +1,7 @@
 -- The table of examples, computed; and that the premises of the theorems about printed runs and about a first bad line can be met.
 -- Assumes nothing.
-use mathlib.Core.Path.{_≡_, refl}
-use mathlib.Core.List.{List, [], _∷_}
-use Prim.Native.Nat.{ℕ}
+use mathlib.Core.Path.{refl}
+use mathlib.Core.List.{[], _∷_}
 use native.Mathlib.Nat.{suc-ne-zero}
 use lib.Dec.{lit<, lit≤}
 use Rattle.memory_address.specs.Rule.{ruled}
@@ -10,7 +9,7 @@ use Rattle.hex_rules.specs.Text.{linesOf}
 use Rattle.hex_rules.specs.Record.{digitOf, badDigit, badLength, badSum}
 use Rattle.hex_rules.specs.Cells.{legalCell}
 use Rattle.hex_rules.specs.Checks.{nothing, linesRead, faultAt, rulesAt, withRecord}
-use Rattle.hex_rules.specs.Deciding.{FirstBad, NoneBad}
+use Rattle.hex_rules.specs.Deciding.{FirstBad}
 use Rattle.recipe.specs.Items.{printed, printedItems}
 use Rattle.hex_rules.specs.Recipe.{recipeOf, itemsOf, upward}
 use Rattle.hex_rules.specs.Converting.{textRead, bytesOf, converted, convertedOutput}

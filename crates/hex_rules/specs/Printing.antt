@@ -1,6 +1,6 @@
 -- Cells printed as records, so that what is read back can be said: runs of bytes from a place on, each behind a type 04 with its upper
 -- half, and the end record last.
-use Prim.Native.Nat.{ℕ, _+_, _-_, _*_, _/_, _%_, _≤_, _<_}
+use Prim.Native.Nat.{ℕ, _+_, _-_, _/_, _%_, _≤_, _<_}
 use mathlib.Core.Path.{_≡_}
 use mathlib.Core.Bool.{true, false, cond}
 use mathlib.Core.List.{List, [], _∷_, _++_}

@@ -2,9 +2,9 @@
 -- output as it was, what is made, and that what is printed is read back. Each is the law over definitions, of the crate hex_rules, carried
 -- over.
 -- Assumes nothing.
-use mathlib.Core.Path.{_≡_, _∙_, refl, sym, ap, subst}
-use mathlib.Core.Bool.{Bool, true, false, cond}
-use mathlib.Core.List.{List, [], _∷_, _++_}
+use mathlib.Core.Path.{_≡_, _∙_, refl, sym, ap}
+use mathlib.Core.Bool.{true, false}
+use mathlib.Core.List.{List, [], _++_}
 use mathlib.Core.Logic.{_⊎_, inl, inr, ⊎-elim}
 use Prim.Native.Nat.{ℕ, _+_, _≤_, _<_}
 use native.Mathlib.Omega.{arith}
@@ -18,7 +18,7 @@ use Rattle.hex_rules.specs.declared.Converted.{Converted}
 use Rattle.hex_rules.specs.declared.Converted.the-variants.{Made, Refused}
 use Rattle.hex_rules.specs.Text.{linesOf}
 use Rattle.hex_rules.specs.Cells.{Cell}
-use Rattle.hex_rules.specs.Checks.{Given, Read, gives, refused, faultAt, atTheEnd}
+use Rattle.hex_rules.specs.Checks.{Given, Read, gives, refused, faultAt}
 use Rattle.hex_rules.specs.Deciding.{FirstBad, NoneBad}
 use Rattle.hex_rules.specs.Recipe.{recipeOf}
 use Rattle.hex_rules.specs.Converting.{textRead, bytesOf, answered, converted, outputBy, convertedOutput}

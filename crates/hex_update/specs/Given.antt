@@ -1,9 +1,9 @@
 -- What a text gave that became a recipe: its cells, the recipe's bytes in the output, and what is behind them as it was.
 use Prim.Native.Nat.{ℕ, _≤_}
 use mathlib.Core.Path.{_≡_}
-use mathlib.Core.List.{List, [], _++_}
+use mathlib.Core.List.{List, []}
 use lib.ListN.{length, take, drop}
-use Rattle.recipe.specs.Items.{Legal, printed}
+use Rattle.recipe.specs.Items.{printed}
 use Rattle.hex_rules.specs.Cells.{Cell}
 use Rattle.hex_rules.specs.Checks.{gives}
 use Rattle.hex_rules.specs.Recipe.{recipeOf}

@@ -1,12 +1,11 @@
 -- `hex_put::put` meets its contract, by the table's length and by the room.
 -- Assumes nothing.
-use mathlib.Core.Path.{_≡_, _∙_, refl, sym, ap}
+use mathlib.Core.Path.{_≡_, _∙_}
 use lib.ListN.{length}
 use Prim.Native.Nat.{_+_}
 use Rattle.hex_put.specs.Internal.Table.{bytesIn}
-use Rattle.hex_put.proofs.Whole.{bytes-size, blocks-inside, rows-inside, not-put, no-table, no-room, is-put}
+use Rattle.hex_put.proofs.Whole.{bytes-size, not-put, no-table, no-room, is-put}
 use native.Mathlib.Omega.{arith}
-use borrow.Author.Needs.{needs}
 use borrow.Author.Needs.{needs}
 use Rattle.hex_put.proofs.put.Statement.{statement}
 use Rattle.hex_put.proofs.put.Tie as tie

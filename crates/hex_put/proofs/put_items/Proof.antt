@@ -1,11 +1,9 @@
 -- `hex_put::put_items` meets its contract. The loop keeps that i items are put, and the next goes behind them.
 -- Assumes nothing.
-use mathlib.Core.Path.{_≡_, _∙_, ap}
-use Prim.Native.Nat.{ℕ, _-_, _+_, _*_}
-use lib.ListN.{length, take, drop}
+use mathlib.Core.Path.{_≡_}
+use Prim.Native.Nat.{_-_, _+_}
 use Rattle.hex_put.proofs.Putting.{Putting, putting-start, putting-long, putting-room, putting-next, putting-end, item-inside}
 use native.Mathlib.Omega.{arith}
-use borrow.Author.Needs.{needs}
 use Rattle.hex_put.proofs.put_items.Statement.{statement}
 use Rattle.hex_put.proofs.put_items.Tie as tie
 use Rattle.hex_put.proofs.item.put_touched.Reads as put-touched-reads

@@ -1,13 +1,9 @@
 -- `hex_put::put_recipe` meets its contract: Open, the blocks, the rows and Leave, one behind the other.
 -- Assumes nothing.
-use mathlib.Core.Path.{_≡_, _∙_, refl, sym, ap, subst}
-use mathlib.Core.List.{List, [], _∷_, _++_}
-use Prim.Native.Nat.{ℕ, _≤_}
-use lib.ListN.{length}
-use Rattle.base.specs.Parts.{patch}
-use Rattle.hex_put.proofs.Whole.{blocks, rows, bytes-parts, blocks-inside, rows-inside, first-room, second-room, first-long, fourth}
+use mathlib.Core.Path.{refl}
+use mathlib.Core.List.{[], _∷_}
+use Rattle.hex_put.proofs.Whole.{blocks, rows, bytes-parts, blocks-inside, rows-inside, first-room, second-room, fourth}
 use native.Mathlib.Omega.{arith}
-use borrow.Author.Needs.{needs}
 use borrow.Author.Needs.{needs}
 use Rattle.hex_put.proofs.put_recipe.Statement.{statement}
 use Rattle.hex_put.proofs.put_recipe.Tie as tie

@@ -1,9 +1,6 @@
 -- `hex_read::convert` meets its contract, by what reading the text and putting the recipe came to.
 -- Assumes nothing.
-use mathlib.Core.Path.{refl}
 use Rattle.hex_read.proofs.Converts.{reads-refused, reads-taken, text-refused, put-none, put-made}
-use native.Mathlib.Omega.{arith}
-use borrow.Author.Needs.{needs}
 use borrow.Author.Needs.{needs}
 use Rattle.hex_read.proofs.convert.Statement.{statement}
 use Rattle.hex_read.proofs.convert.Tie as tie

@@ -1,6 +1,6 @@
 -- `hex_read::read_text` meets its contract. The loop keeps what the lines so far gave, and that the table marks it.
 -- Assumes nothing.
-use mathlib.Core.Path.{_≡_, _∙_, refl, sym, ap, subst}
+use mathlib.Core.Path.{_∙_, refl, sym, ap, subst}
 use Prim.Native.Nat.{ℕ, _-_, _<_}
 use Rattle.hex_read.specs.Internal.Judging.{recordFault}
 use lib.ListN.{length, length-replicate}

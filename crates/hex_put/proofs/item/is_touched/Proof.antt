@@ -1,33 +1,36 @@
--- `hex_put::item::is_touched` meets its contract: before each turn, what is asked of all places is asked of those that are left.
+-- `hex_put::item::is_touched` meets its contract: before each turn, what is asked of all places is known of those before, and asked of
+-- those that are left.
 -- Assumes nothing.
+use mathlib.Core.Bool.{_||_}
 use mathlib.Core.Path.{_≡_, refl}
 use native.Mathlib.Numerals.{add-one}
 use Prim.Native.Nat.{_-_, _≤_}
 use lib.ListN.{length, drop}
 use Rattle.hex_put.specs.Internal.Table.{someMarked}
-use Rattle.hex_put.proofs.Marking.{marked-here, unmarked-here, none-marked}
+use Rattle.hex_put.proofs.Marking.{one-more, all-looked-at}
 use native.Mathlib.Omega.{arith}
 use borrow.Author.Needs.{needs}
 use Rattle.hex_put.proofs.item.is_touched.Statement.{statement}
 use Rattle.hex_put.proofs.item.is_touched.Tie as tie
+use Rattle.hex_put.proofs.item.or_marked.Reads as or-marked-reads
 
 abbrev Inv-loop : tie.InvT-loop
-Inv-loop places i₀ i = (i ≤ length places) × (someMarked places ≡ someMarked (drop i places))
+Inv-loop places marked₀ i₀ marked i = (i ≤ length places) × (someMarked places ≡ (marked || someMarked (drop i places)))
 
 abbrev μ-loop : tie.MeasureT-loop
-μ-loop places i₀ i = length places - i
+μ-loop places marked₀ i₀ marked i = length places - i
 
 loop-holds : tie.Need-loop-holds Inv-loop μ-loop
 loop-holds c = (omega arith, refl)
 
-mul-if1 : tie.Need-mul-if1 Inv-loop μ-loop
-mul-if1 c = omega arith
+mul-or-marked : tie.Need-mul-or-marked Inv-loop μ-loop
+mul-or-marked c = omega arith
 
-shared-slice-read-if1 : tie.Need-shared-slice-read-if1 Inv-loop μ-loop
-shared-slice-read-if1 c = omega arith
+shared-slice-read-or-marked : tie.Need-shared-slice-read-or-marked Inv-loop μ-loop
+shared-slice-read-or-marked c = omega arith
 
-returns : tie.Need-returns Inv-loop μ-loop
-returns c = marked-here (c .before .before .before .before .args .places .now) (c .before .before .before .loop .i) (c .before .before .loop-test .taken) (c .if1 .taken) (c .before .before .before .loop .inv .1)
+or-marked-requires : tie.Need-or-marked-requires Inv-loop μ-loop
+or-marked-requires c κs = search needs
 
 add-i : tie.Need-add-i Inv-loop μ-loop
 add-i c = omega arith
@@ -39,11 +42,11 @@ loop-again : tie.Need-loop-again Inv-loop μ-loop
 loop-again c =
     let l = c .before .before .before .loop in (
       omega arith,
-      rw (add-one) (unmarked-here (c .before .before .before .before .args .places .now) (l .i) (c .before .before .loop-test .taken) (c .if1 .left) (l .inv .1)),
+      rw add-one (one-more (c .before .before .before .before .before .args .places .now) (l .i) (l .marked) (c .or-marked .result) (c .before .before .loop-test .taken) (c .or-marked .ensures) (l .inv .1)),
     )
 
-returns-2 : tie.Need-returns-2 Inv-loop μ-loop
-returns-2 c = none-marked (c .before .before .args .places .now) (c .before .loop .i) (c .loop-test .left) (c .before .loop .inv .1)
+returns : tie.Need-returns Inv-loop μ-loop
+returns c = all-looked-at (c .before .before .before .args .places .now) (c .before .loop .i) (c .before .loop .marked) (c .loop-test .left) (c .before .loop .inv .1)
 
 pub is-touched-spec : {M : Type 1} → statement M
 is-touched-spec =
@@ -52,10 +55,10 @@ is-touched-spec =
     Inv-loop
     μ-loop
     loop-holds
-    mul-if1
-    shared-slice-read-if1
-    returns
+    mul-or-marked
+    shared-slice-read-or-marked
+    or-marked-requires
     add-i
     loop-less
     loop-again
-    returns-2)
+    returns)

@@ -2,8 +2,6 @@
 -- Assumes nothing.
 use mathlib.Core.Path.{refl}
 use Rattle.hex_put.proofs.Putting.{item-put}
-use native.Mathlib.Omega.{arith}
-use borrow.Author.Needs.{needs}
 use borrow.Author.Needs.{needs}
 use Rattle.hex_put.proofs.item.put_item.Statement.{statement}
 use Rattle.hex_put.proofs.item.put_item.Tie as tie

@@ -7,7 +7,6 @@ use Rattle.base.proofs.Stored.{mix, mix-length, mix-all, stored}
 use Rattle.hex_put.specs.Internal.Table.{lowBytes}
 use Rattle.hex_put.proofs.Marking.{low-length, low-byte}
 use native.Mathlib.Omega.{arith}
-use borrow.Author.Needs.{needs}
 use Rattle.hex_put.proofs.item.put_low.Statement.{statement}
 use Rattle.hex_put.proofs.item.put_low.Tie as tie
 

@@ -7,7 +7,6 @@ use Rattle.recipe_item.proofs.Putting.{patch-none}
 use Rattle.hex_put.proofs.Putting.{touched-is, untouched-is, touched-size, untouched-size}
 use native.Mathlib.Omega.{arith}
 use borrow.Author.Needs.{needs}
-use borrow.Author.Needs.{needs}
 use Rattle.hex_put.proofs.item.put_touched.Statement.{statement}
 use Rattle.hex_put.proofs.item.put_touched.Tie as tie
 use Rattle.hex_put.proofs.item.is_touched.Reads as is-touched-reads

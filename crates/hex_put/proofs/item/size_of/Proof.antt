@@ -1,9 +1,8 @@
 -- `hex_put::item::size_of` meets its contract, by whether the item is touched.
 -- Assumes nothing.
 use mathlib.Core.Path.{_∙_, sym}
-use Rattle.hex_put.proofs.Putting.{touched-size, untouched-size}
+use Rattle.hex_put.proofs.Putting.{touched-size}
 use native.Mathlib.Omega.{arith}
-use borrow.Author.Needs.{needs}
 use borrow.Author.Needs.{needs}
 use Rattle.hex_put.proofs.item.size_of.Statement.{statement}
 use Rattle.hex_put.proofs.item.size_of.Tie as tie

@@ -1,15 +1,13 @@
 -- `hex_read::cells::give` meets its contract, by its three tests.
 -- Assumes nothing.
-use mathlib.Core.Path.{_≡_, _∙_, refl, sym, ap}
-use mathlib.Core.Bool.{Bool, true, false}
+use mathlib.Core.Path.{_≡_, _∙_, sym, ap}
 use Prim.Native.Nat.{ℕ, _+_, _-_}
-use lib.ListN.{length, take, drop}
+use lib.ListN.{length}
 use borrow.Author.Tests.{not-true, not-false}
 use Rattle.base.specs.Parts.{part}
 use Rattle.hex_put.specs.Internal.Table.{someMarked}
 use Rattle.hex_read.proofs.Storing.{give-none, give-outside, give-twice, give-once, table-given}
 use native.Mathlib.Omega.{arith}
-use borrow.Author.Needs.{needs}
 use borrow.Author.Needs.{needs}
 use Rattle.hex_read.proofs.cells.give.Statement.{statement}
 use Rattle.hex_read.proofs.cells.give.Tie as tie

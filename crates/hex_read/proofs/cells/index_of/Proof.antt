@@ -1,11 +1,10 @@
 -- `hex_read::cells::index_of` meets its contract: FLASH's area is tried, and then EEPROM's.
 -- Assumes nothing.
-use mathlib.Core.Path.{_≡_, _∙_, sym}
+use mathlib.Core.Path.{_∙_, sym}
 use Rattle.base.proofs.Choice.{both-true}
 use borrow.Author.Tests.{leb-true}
 use Rattle.hex_read.proofs.Storing.{in-flash, in-eeprom, in-neither}
 use native.Mathlib.Omega.{arith}
-use borrow.Author.Needs.{needs}
 use borrow.Author.Needs.{needs}
 use Rattle.hex_read.proofs.cells.index_of.Statement.{statement}
 use Rattle.hex_read.proofs.cells.index_of.Tie as tie

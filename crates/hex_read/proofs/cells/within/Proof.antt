@@ -1,11 +1,9 @@
 -- `hex_read::cells::within` meets its contract: its two tests are the definition's.
 -- Assumes nothing.
-use mathlib.Core.Path.{_≡_, sym, ap, ap₂}
+use mathlib.Core.Path.{sym, ap}
 use mathlib.Core.Bool.{Bool, _&&_}
 use lib.Dec.{leb}
 use borrow.Author.Tests.{le-leb, lt-leb}
-use native.Mathlib.Omega.{arith}
-use borrow.Author.Needs.{needs}
 use Rattle.hex_read.proofs.cells.within.Statement.{statement}
 use Rattle.hex_read.proofs.cells.within.Tie as tie
 

@@ -2,14 +2,12 @@
 -- Assumes nothing.
 use mathlib.Core.Path.{_≡_, _∙_, sym, ap, ap₂}
 use Prim.Native.Nat.{ℕ, _+_, _-_, _%_}
-use lib.ListN.{length, take, drop}
+use lib.ListN.{take}
 use Rattle.base.specs.Parts.{part, sumOf}
-use Rattle.hex_rules.specs.Record.{countOf, dataOf}
+use Rattle.hex_rules.specs.Record.{countOf}
 use Rattle.hex_read.specs.Internal.Giving.{givingFault, withCells}
-use Rattle.hex_read.specs.Internal.Judging.{startOf}
 use Rattle.hex_read.proofs.Faults.{wrong-sum, wrong-type, no-cells, cells-refused, cells-given, cells-table}
 use native.Mathlib.Omega.{arith}
-use borrow.Author.Needs.{needs}
 use borrow.Author.Needs.{needs}
 use Rattle.hex_read.proofs.judge.fault_of.Statement.{statement}
 use Rattle.hex_read.proofs.judge.fault_of.Tie as tie

@@ -1,8 +1,6 @@
 -- `hex_read::judge::is_other` meets its contract: each arm knows which type it is.
 -- Assumes nothing.
 use borrow.Author.Tests.{ne-eqb}
-use native.Mathlib.Omega.{arith}
-use borrow.Author.Needs.{needs}
 use borrow.Author.Needs.{needs}
 use Rattle.hex_read.proofs.judge.is_other.Statement.{statement}
 use Rattle.hex_read.proofs.judge.is_other.Tie as tie

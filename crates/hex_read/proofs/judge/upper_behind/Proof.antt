@@ -1,13 +1,12 @@
 -- `hex_read::judge::upper_behind` meets its contract, by the record's type.
 -- Assumes nothing.
-use mathlib.Core.Path.{_∙_, sym, ap, ap₂}
+use mathlib.Core.Path.{_∙_, sym, ap₂}
 use Prim.Native.Nat.{ℕ, _+_, _*_}
 use lib.Dec.{eqb}
 use lib.ListN.{getD}
 use borrow.Author.Tests.{eq-eqb, ne-eqb}
 use Rattle.base.proofs.Choice.{cond-true, cond-false}
 use native.Mathlib.Omega.{arith}
-use borrow.Author.Needs.{needs}
 use borrow.Author.Needs.{needs}
 use Rattle.hex_read.proofs.judge.upper_behind.Statement.{statement}
 use Rattle.hex_read.proofs.judge.upper_behind.Tie as tie
