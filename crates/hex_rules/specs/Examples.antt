@@ -2,7 +2,7 @@
 use Prim.Native.Nat.{ℕ}
 use mathlib.Core.Path.{_≡_}
 use mathlib.Core.List.{List, [], _∷_, _++_}
-use lib.ListN.{drop}
+use lib.ListN.{take, drop}
 use Rattle.hex_rules.specs.Text.{cr, lf}
 use Rattle.hex_rules.specs.Record.{colon}
 use Rattle.hex_rules.specs.Cells.{Cell}
@@ -51,12 +51,19 @@ shortUpper = lineOf (unsummed 0 0x04 (0x00 ∷ []))
 abbrev pub longUpper : List ℕ
 longUpper = lineOf (unsummed 0 0x04 (0x00 ∷ 0x00 ∷ 0x00 ∷ []))
 
--- a record whose last byte is not the sum, and one of another type
+-- a record whose last byte is not the sum, and two of other types
 abbrev pub badSumLine : List ℕ
 badSumLine = colon ∷ pairs (0x00 ∷ 0x00 ∷ 0x00 ∷ 0x01 ∷ 0xFE ∷ [])
 
 abbrev pub startLine : List ℕ
 startLine = lineOf (unsummed 0 0x05 (0x00 ∷ 0x00 ∷ 0x10 ∷ 0x00 ∷ []))
+
+abbrev pub segmentLine : List ℕ
+segmentLine = lineOf (unsummed 0 0x02 (0x10 ∷ 0x00 ∷ []))
+
+-- an end record with another last character
+abbrev pub spoilt : ℕ → List ℕ
+spoilt c = take 10 endLine ++ (c ∷ [])
 
 -- in the order of the numbers; the second taken text has no LF behind its last line, the third a CR LF, the fourth is in small letters
 unfoldable pub examples : List Example
@@ -73,6 +80,12 @@ examples =
     }
     ∷ record { text = smallEnd ++ (cr ∷ []); read = refused 30 1 }
     ∷ record { text = textOf (endLine ∷ [] ∷ []); read = refused 30 2 }
+    ∷ record { text = spoilt 0x2F; read = refused 30 1 }
+    ∷ record { text = spoilt 0x3A; read = refused 30 1 }
+    ∷ record { text = spoilt 0x40; read = refused 30 1 }
+    ∷ record { text = spoilt 0x47; read = refused 30 1 }
+    ∷ record { text = spoilt 0x60; read = refused 30 1 }
+    ∷ record { text = spoilt 0x67; read = refused 30 1 }
     ∷ record { text = drop 1 endLine; read = refused 30 1 }
     ∷ record { text = endLine ++ (0x30 ∷ []); read = refused 30 1 }
     ∷ record { text = textOf (endWithData ∷ []); read = refused 30 1 }
@@ -80,6 +93,7 @@ examples =
     ∷ record { text = textOf (longUpper ∷ endLine ∷ []); read = refused 30 1 }
     ∷ record { text = textOf (badSumLine ∷ []); read = refused 31 1 }
     ∷ record { text = textOf (startLine ∷ endLine ∷ []); read = refused 32 1 }
+    ∷ record { text = textOf (segmentLine ∷ endLine ∷ []); read = refused 32 1 }
     ∷ record { text = printedRuns (loaderRun ∷ []); read = refused 33 2 }
     ∷ record { text = printedRuns (flashRun ∷ flashRun ∷ []); read = refused 34 4 }
     ∷ record { text = textOf (runLines eepromRun); read = refused 35 3 }
