@@ -80,30 +80,30 @@ lines-numbered (l ∷ ls) line g n k e = go (lines-numbered ls) (faultAt g l) re
 few-bytes : (m g : ℕ) (cells : List Cell) → length (bytesOf m g cells) ≤ 71172
 few-bytes m g cells = omega (arith, printed-size m g cells, items-size cells)
 
--- a text and its numbers, in a room that does
-module _ (text : List ℕ) (m g room : ℕ) where
-  -- what is refused
-  pub refused-few : 71172 ≤ room → (number line : ℕ) → converted text m g room ≡ Refused number line → (30 ≤ number) × (number ≤ 35)
+-- what is answered of a text and its numbers by the definition
+module _ (text : List ℕ) (m g room : ℕ) {answer : Converted} (said : answer ≡ converted text m g room) where
+  -- a refusal in a room that does is 30 to 35
+  pub answer-refused : 71172 ≤ room → (number line : ℕ) → answer ≡ Refused number line → (30 ≤ number) × (number ≤ 35)
   unfolding converted textRead
-  refused-few enough number line = go (textRead text) refl
+  answer-refused enough number line q = go (textRead text) refl (sym said ∙ q)
     where
       same : {n k : ℕ} → Refused n k ≡ Refused number line → n ≡ number
       same e = cc
 
       go : (r : Read) → textRead text ≡ r → answered r m g room ≡ Refused number line → Numbered number
-      go (refused n k) q e =
-          let w = lines-numbered _ _ _ n k q in
+      go (refused n k) t e =
+          let w = lines-numbered _ _ _ n k t in
           let i = same e in
           (omega (arith, w .0, i), omega (arith, w .1, i))
-      go (gives cells) q e =
+      go (gives cells) t e =
           let f = le-ltb room (length (bytesOf m g cells)) (omega (arith, few-bytes m g cells, enough)) in
           let d = sym (ap (λ (b : Bool). cond b (Refused 26 0) (Made (length (bytesOf m g cells)))) f) ∙ e in
           absurd (let z : _≡_ {A = ℕ} 0 1 = cc in omega arith)
 
-  -- what is made is no longer than the room
-  pub made-fits : (size : ℕ) → converted text m g room ≡ Made size → size ≤ room
+  -- a recipe that was made is no longer than the room
+  pub answer-fits : (size : ℕ) → answer ≡ Made size → size ≤ room
   unfolding converted
-  made-fits size = go (textRead text)
+  answer-fits size q = go (textRead text) (sym said ∙ q)
     where
       none : {n k : ℕ} → Refused n k ≡ Made size → ⊥
       none e = let z : _≡_ {A = ℕ} 0 1 = cc in omega arith
@@ -112,8 +112,8 @@ module _ (text : List ℕ) (m g room : ℕ) where
       same e = cc
 
       long : (b : Bool) (n : ℕ) → ltb room n ≡ b → cond b (Refused 26 0) (Made n) ≡ Made size → size ≤ room
-      long true n q e = absurd (none e)
-      long false n q e = omega (arith, ltb-false room n q, same e)
+      long true n t e = absurd (none e)
+      long false n t e = omega (arith, ltb-false room n t, same e)
 
       go : (r : Read) → answered r m g room ≡ Made size → size ≤ room
       go (refused n k) e = absurd (none e)
@@ -123,5 +123,4 @@ module _ (text : List ℕ) (m g room : ℕ) where
 pub hex-has-room : (κs : Lfts 2) (a : ArgsD signature κs) (r : ResD signature κs) (s : AtExit (endedOf 2 kinds.ps kinds.r) κs)
     → reads.Post κs a r s → 71172 ≤ length ((a .1 .1 .1 .0) .now)
     → (number line : ℕ) → r ≡ Refused number line → (30 ≤ number) × (number ≤ 35)
-hex-has-room κs a r s p enough number line e =
-    refused-few ((a .0) .now) _ _ (length ((a .1 .1 .1 .0) .now)) enough number line (sym (p .0) ∙ e)
+hex-has-room κs a r s p = answer-refused ((a .0) .now) _ _ (length ((a .1 .1 .1 .0) .now)) (p .0)

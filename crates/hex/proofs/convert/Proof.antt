@@ -1,10 +1,9 @@
 -- `hex::convert` is safe, and says only what can come: its room does for every text (HasRoom), so that a refusal is 30 to 35, and a recipe
 -- that was made stands in it whole. Assumes nothing.
-use mathlib.Core.Path.{sym, _∙_}
 use native.Mathlib.Omega.{arith}
 use lib.ListN.{length-take}
 use borrow.Author.Needs.{needs}
-use Rattle.hex.proofs.HasRoom.{refused-few, made-fits}
+use Rattle.hex.proofs.HasRoom.{answer-refused, answer-fits}
 use Rattle.hex.proofs.convert.Statement.{statement}
 use Rattle.hex.proofs.convert.Tie as tie
 
@@ -20,7 +19,7 @@ enum-known-converted c = search needs
 refuse-requires : tie.Need-refuse-requires
 refuse-requires c κs =
     let d = c .before .before .before .before .convert in
-    refused-few _ _ _ _ (search needs) _ _ (sym (d .ensures .0) ∙ c .before .converted .given .1)
+    answer-refused _ _ _ _ (d .ensures .0) (search needs) _ _ (c .before .converted .given .1)
 
 enum-known-converted-2 : tie.Need-enum-known-converted-2
 enum-known-converted-2 c = search needs
@@ -28,13 +27,13 @@ enum-known-converted-2 c = search needs
 array-share-prefix-recipe : tie.Need-array-share-prefix-recipe
 array-share-prefix-recipe c =
     let d = c .before .before .before .before .convert in
-    let fits = made-fits _ _ _ _ _ (sym (d .ensures .0) ∙ c .before .converted2 .given .1) in
+    let fits = answer-fits _ _ _ _ (d .ensures .0) _ (c .before .converted2 .given .1) in
     omega (arith, fits, d .kept .1 .1 .1 .0)
 
 slice-aggregate-write-recipe : tie.Need-slice-aggregate-write-recipe
 slice-aggregate-write-recipe c =
     let d = c .before .before .before .before .before .convert in
-    let fits = made-fits _ _ _ _ _ (sym (d .ensures .0) ∙ c .before .before .converted2 .given .1) in
+    let fits = answer-fits _ _ _ _ (d .ensures .0) _ (c .before .before .converted2 .given .1) in
     simp length-take (omega (arith, fits, d .kept .1 .1 .1 .0))
 
 write-recipe-requires : tie.Need-write-recipe-requires
