@@ -13,7 +13,7 @@ use lib.Seq.{drop-cons}
 use borrow.Author.Tests.{le-leb, lt-leb, lt-ltb, le-ltb, eq-eqb, ne-eqb}
 use Rattle.base.proofs.Choice.{by-cond, cond-false}
 use Rattle.hex_rules.specs.Record.{digitOf}
-use Rattle.hex.specs.Numbers.{digitsRead, valueOf, numberOf}
+use Rattle.hex.specs.Internal.Numbers.{digitsRead, valueOf, numberOf}
 use Rattle.hex.specs.declared.number.Numeral.{Numeral}
 use Rattle.hex.specs.declared.number.Numeral.the-variants.{Byte, Wrong}
 

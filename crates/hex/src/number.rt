@@ -2,7 +2,7 @@
 ghost use mathlib.Core.Path.{_≡_};
 ghost use Prim.Native.Nat.{_≤_};
 ghost use Rattle.hex_rules.specs.Record.{digitOf};
-ghost use Rattle.hex.specs.Numbers.{valueOf, numberOf};
+ghost use Rattle.hex.specs.Internal.Numbers.{valueOf, numberOf};
 
 // What a word comes to: a number from 0 to 255, or none.
 pub enum Numeral {

@@ -5,7 +5,7 @@ use Prim.Native.Nat.{_-_}
 use lib.ListN.{length, drop, length-drop}
 use lib.Seq.{take-all}
 use borrow.Author.Needs.{needs}
-use Rattle.hex.specs.Numbers.{valueOf}
+use Rattle.hex.specs.Internal.Numbers.{valueOf}
 use Rattle.hex.proofs.Numbers.{short-word, other-first, other-second, hexadecimal}
 use Rattle.hex.proofs.number.number.Statement.{statement}
 use Rattle.hex.proofs.number.number.Tie as tie

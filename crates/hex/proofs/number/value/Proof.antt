@@ -5,7 +5,7 @@ use mathlib.Core.Path.{_≡_}
 use native.Mathlib.Omega.{arith}
 use lib.ListN.{length, drop}
 use borrow.Author.Needs.{needs}
-use Rattle.hex.specs.Numbers.{digitsRead}
+use Rattle.hex.specs.Internal.Numbers.{digitsRead}
 use Rattle.hex.proofs.Numbers.{no-digits, small-product, one-more, too-large, wrong-digit, all-read}
 use Rattle.hex.proofs.number.value.Statement.{statement}
 use Rattle.hex.proofs.number.value.Tie as tie
