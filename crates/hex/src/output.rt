@@ -1,4 +1,5 @@
-// What is written: the recipe, on standard output or into the file that the fourth argument names; or, on standard error, why there is none.
+// What is written: the recipe, on standard output or into the file that the fourth argument names; or why there is none, on standard
+// error.
 ghost use Prim.Native.Nat.{_≤_};
 use libc::STDERR_FILENO;
 use libc::STDOUT_FILENO;
@@ -29,7 +30,7 @@ fn tell_why(number: u8)
 {
     match number {
         30 => tell(
-            b"this is no record: a colon, then pairs of hexadecimal digits, as many as its count says; an end has no data, an upper address two bytes",
+            b"a bad digit or length: a record is a colon and pairs of digits, as many as it says; type 01 has no data, type 04 two bytes",
         ),
         31 => tell(b"the record's sum is wrong"),
         32 => tell(b"the record's type is none of 00, 01 and 04"),

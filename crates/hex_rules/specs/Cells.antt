@@ -30,15 +30,15 @@ abbrev pub givenAt : List Cell → ℕ → Bool
 givenAt [] a = false
 givenAt (c ∷ cs) a = eqb (c .place) a || givenAt cs a
 
--- "a cell given twice": by the lines before, whatever its byte. (A record's own places are all different.)
-abbrev pub someTwice : List Cell → List Cell → Bool
-someTwice before [] = false
-someTwice before (c ∷ cs) = givenAt before (c .place) || someTwice before cs
-
 -- the byte given for a place, "0xFF in the rest"
 abbrev pub byteAt : List Cell → ℕ → ℕ
 byteAt [] a = 0xFF
 byteAt (c ∷ cs) a = cond (eqb (c .place) a) (c .byte) (byteAt cs a)
+
+-- "a cell given twice": by the lines before, whatever its byte. (A record's own places are all different.)
+abbrev pub someTwice : List Cell → List Cell → Bool
+someTwice before [] = false
+someTwice before (c ∷ cs) = givenAt before (c .place) || someTwice before cs
 
 -- whether one of the `size` places from a on is given
 abbrev pub touched : List Cell → ℕ → ℕ → Bool
