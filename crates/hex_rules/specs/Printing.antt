@@ -33,7 +33,7 @@ unsummed address type cells = length cells ∷ address / 256 % 256 ∷ address %
 abbrev pub summed : List ℕ → List ℕ
 summed bs = bs ++ ((256 - sumOf bs % 256) % 256 ∷ [])
 
--- a record as a line, without and with its ending
+-- a record as a line, without its ending
 abbrev pub lineOf : List ℕ → List ℕ
 lineOf bs = colon ∷ pairs (summed bs)
 
