@@ -47,7 +47,7 @@ patch-agrees m m′ a d f f′ c same =
 
 module _ (c : ℕ) where
   -- an item over two memories
-  item-flash : (i : Item) (m m′ : Memories) → LegalItem i → length (m .flash) ≡ flashCells → length (m′ .flash) ≡ flashCells
+  pub item-flash : (i : Item) (m m′ : Memories) → LegalItem i → length (m .flash) ≡ flashCells → length (m′ .flash) ≡ flashCells
       → (OutsideFlash c i → getD (m .flash) c 0 ≡ getD (m′ .flash) c 0)
       → getD (plainItem i m .flash) c 0 ≡ getD (plainItem i m′ .flash) c 0
   item-flash (block a d) m m′ h l l′ same =

@@ -1,0 +1,4 @@
+pub mod Keeping
+pub mod Writing
+pub mod Turns
+pub mod Pairs
