@@ -1,1 +1,9 @@
 pub mod Keeping
+pub mod Turning
+pub mod KeptLegal
+pub mod KeptPlain
+pub mod Needed
+pub mod Standing
+pub mod Pairing
+pub mod Answering
+pub mod Examples

@@ -46,13 +46,13 @@ three-bytes x y z hx hy hz =
     rw (a, b, c)
 
 -- an input of four bytes and n more starts with its kind, its address and n cells
-start : (n : ℕ) (input : List ℕ) → Bytes input → 4 + n ≤ length input
+pub item-bytes : (n : ℕ) (input : List ℕ) → Bytes input → 4 + n ≤ length input
     → input ≡ (kindOf input ∷ (addressBytes (addressOf input) ++ part input 4 n)) ++ drop (4 + n) input
-start n [] b h = absurd (omega arith)
-start n (k ∷ []) b h = absurd (omega arith)
-start n (k ∷ x ∷ []) b h = absurd (omega arith)
-start n (k ∷ x ∷ y ∷ []) b h = absurd (omega arith)
-start n (k ∷ x ∷ y ∷ z ∷ rest) b h =
+item-bytes n [] b h = absurd (omega arith)
+item-bytes n (k ∷ []) b h = absurd (omega arith)
+item-bytes n (k ∷ x ∷ []) b h = absurd (omega arith)
+item-bytes n (k ∷ x ∷ y ∷ []) b h = absurd (omega arith)
+item-bytes n (k ∷ x ∷ y ∷ z ∷ rest) b h =
     let cells : take n rest ++ drop (4 + n) (k ∷ x ∷ y ∷ z ∷ rest) ≡ rest =
     ap (λ (l : List ℕ). take n rest ++ l) (sym (drop-drop n 4 (k ∷ x ∷ y ∷ z ∷ rest))) ∙ take-append-drop n rest in
     sym (ap (λ (l : List ℕ). (k ∷ (l ++ take n rest)) ++ drop (4 + n) (k ∷ x ∷ y ∷ z ∷ rest))
@@ -115,7 +115,7 @@ module _ (looks : ℕ)
   on-block : Claim 0x02
   on-block b f =
       in-front (block (addressOf (0x02 ∷ xs)) (part (0x02 ∷ xs) 4 64)) (0x02 ∷ xs) (drop 68 (0x02 ∷ xs)) number _
-      (start 64 (0x02 ∷ xs) (b, bytes) (f .whole)) (
+      (item-bytes 64 (0x02 ∷ xs) (b, bytes) (f .whole)) (
         not-false _ (f .address),
         part-length (0x02 ∷ xs) 4 64 (f .whole),
         bytes-take 64 (drop 4 (0x02 ∷ xs)) (bytes-drop 4 (0x02 ∷ xs)
@@ -126,7 +126,7 @@ module _ (looks : ℕ)
   on-row : Claim 0x03
   on-row b f =
       in-front (row (addressOf (0x03 ∷ xs)) (part (0x03 ∷ xs) 4 8)) (0x03 ∷ xs) (drop 12 (0x03 ∷ xs)) number _
-      (start 8 (0x03 ∷ xs) (b, bytes) (f .whole)) (
+      (item-bytes 8 (0x03 ∷ xs) (b, bytes) (f .whole)) (
         not-false _ (f .address),
         part-length (0x03 ∷ xs) 4 8 (f .whole),
         bytes-take 8 (drop 4 (0x03 ∷ xs)) (bytes-drop 4 (0x03 ∷ xs) (

@@ -1,4 +1,3 @@
-pub mod Faulting
 pub mod Walking
 pub mod Emission
 pub mod Answers

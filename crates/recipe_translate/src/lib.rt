@@ -16,8 +16,9 @@ use memory_address::Group;
 use memory_address::Module;
 use recipe::Translated;
 
-// Reads a recipe through: its frame count, or the refusal of the first item at fault, or of the end.
-fn check(input: &[u8]) -> Translated
+// Reads a recipe through: its frame count, or the refusal of the first item at fault, or of the end. A recipe that is taken was
+// read, and so is known to hold bytes.
+pub fn check(input: &[u8]) -> Translated
     ensures { λ r. ⌜ (r ≡ checked (now (input .entry))) × BytesIfTaken r (now (input .entry)) ⌝ }
 {
     let mut c = Cursor {
@@ -39,7 +40,7 @@ fn check(input: &[u8]) -> Translated
                 place: input.len(),
             };
         }
-        let fault = cursor::fault_at(input, place, number, ended);
+        let fault = recipe_fault::fault_at(input, place, number, ended);
         if fault != 0 {
             return Translated::Refused {
                 number: fault,

@@ -6,7 +6,8 @@ use mathlib.Core.Bool.{true, false≢true}
 use Prim.Native.Nat.{_-_}
 use lib.ListN.{length}
 use Rattle.base.specs.Parts.{Bytes}
-use Rattle.recipe_translate.proofs.Walking.{Kept, kept-start, kept-done, kept-open, kept-fault, kept-next, at-item, nearer}
+use borrow.Author.Needs.{needs}
+use Rattle.recipe_translate.proofs.Walking.{Kept, kept-start, kept-done, kept-open, kept-fault, kept-next, at-cursor, nearer}
 use Rattle.recipe_translate.proofs.check.Statement.{statement}
 use Rattle.recipe_translate.proofs.check.Tie as tie
 
@@ -35,7 +36,7 @@ returns-2 c = (
 )
 
 fault-at-requires : tie.Need-fault-at-requires Inv-loop μ-loop
-fault-at-requires c κs = c .if1 .left
+fault-at-requires c κs = search needs
 
 returns-3 : tie.Need-returns-3 Inv-loop μ-loop
 returns-3 c = (
@@ -46,7 +47,7 @@ returns-3 c = (
 )
 
 next-requires : tie.Need-next-requires Inv-loop μ-loop
-next-requires c κs = at-item (c .before .before .before .before .before .args .input .now) (c .before .before .before .loop .c)
+next-requires c κs = at-cursor (c .before .before .before .before .before .args .input .now) (c .before .before .before .loop .c)
     (c .before .before .before .loop .inv .0) (c .before .fault-at .result) (c .before .before .if1 .left) (c .before .fault-at .ensures)
     (c .if3 .left)
 
@@ -58,7 +59,7 @@ loop-again : tie.Need-loop-again Inv-loop μ-loop
 loop-again c = (
   kept-next (c .before .before .before .before .before .before .args .input .now) (c .before .before .before .before .loop .c)
       (c .before .before .before .before .loop .inv .0) (c .next .result)
-      (at-item (c .before .before .before .before .before .before .args .input .now) (c .before .before .before .before .loop .c)
+      (at-cursor (c .before .before .before .before .before .before .args .input .now) (c .before .before .before .before .loop .c)
       (c .before .before .before .before .loop .inv .0) (c .before .before .fault-at .result) (c .before .before .before .if1 .left)
       (c .before .before .fault-at .ensures) (c .before .if3 .left)) (c .next .ensures .0),
   λ _. c .next .ensures .1,

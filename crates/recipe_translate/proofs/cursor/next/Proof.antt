@@ -3,7 +3,7 @@
 -- Assumes nothing.
 use native.Mathlib.Omega.{arith}
 use Rattle.base.proofs.Bytes.{bytes-by}
-use Rattle.recipe_translate.proofs.Faulting.{next-is}
+use Rattle.recipe_translate.proofs.Walking.{next-is}
 use borrow.Author.Needs.{needs}
 use Rattle.recipe_translate.proofs.cursor.next.Statement.{statement}
 use Rattle.recipe_translate.proofs.cursor.next.Tie as tie
@@ -11,8 +11,8 @@ use Rattle.recipe_translate.proofs.cursor.next.Tie as tie
 shared-slice-read-kind : tie.Need-shared-slice-read-kind
 shared-slice-read-kind c = search needs
 
-body-length-requires : tie.Need-body-length-requires
-body-length-requires c κs = search needs
+size-of-kind-requires : tie.Need-size-of-kind-requires
+size-of-kind-requires c κs = search needs
 
 add-t8 : tie.Need-add-t8
 add-t8 c = search needs
@@ -20,20 +20,17 @@ add-t8 c = search needs
 add-t9 : tie.Need-add-t9
 add-t9 c = search needs
 
-add-t10 : tie.Need-add-t10
-add-t10 c = search needs
-
 frames-of-kind-requires : tie.Need-frames-of-kind-requires
 frames-of-kind-requires c κs = search needs
 
-add-t13 : tie.Need-add-t13
-add-t13 c = search needs
+add-t12 : tie.Need-add-t12
+add-t12 c = search needs
 
 returns : tie.Need-returns
 returns c =
     let input = c .before .before .before .before .before .before .args .input .now in (
-      next-is input (c .before .before .before .before .before .before .args .c) (c .before .before .before .body-length .result)
-          (c .before .frames-of-kind .result) (c .before .before .before .body-length .ensures .0) (c .before .frames-of-kind .ensures .0),
+      next-is input (c .before .before .before .before .before .before .args .c) (c .before .before .before .size-of-kind .result)
+          (c .before .frames-of-kind .result) (c .before .before .before .size-of-kind .ensures .0) (c .before .frames-of-kind .ensures .0),
       bytes-by input (λ i l. omega (arith, c .before .before .before .before .before .shared-slice-known .given i)),
     )
 
@@ -42,10 +39,9 @@ next-spec =
     tie.close
     (tie.spec
     shared-slice-read-kind
-    body-length-requires
+    size-of-kind-requires
     add-t8
     add-t9
-    add-t10
     frames-of-kind-requires
-    add-t13
+    add-t12
     returns)
