@@ -66,7 +66,7 @@ examples =
       kept = [];
       erases = 0;
     }
-    -- the cells of A, but one place too early, or too late
+    -- the Block's cells stand, but one place too early, or too late
     ∷ record {
       items = block 64 otherFirst ∷ [];
       image = replicate 63 0x55 ++ (otherFirst ++ replicate 65 0x55);
@@ -83,9 +83,9 @@ examples =
     ∷ record { items = aRow ∷ aRow ∷ []; image = around (cells 0xAA); kept = aRow ∷ aRow ∷ []; erases = 0 }
     -- a Row whose address and cells would stand in FLASH stays, too
     ∷ record {
-      items = row 64 (replicate 64 0xAA) ∷ [];
+      items = row 64 (replicate 8 0xAA) ∷ [];
       image = around (cells 0xAA);
-      kept = row 64 (replicate 64 0xAA) ∷ [];
+      kept = row 64 (replicate 8 0xAA) ∷ [];
       erases = 0;
     }
     -- a Row and then a Block, which differs or stands
@@ -149,7 +149,7 @@ withRow = printed (recipe (aRow ∷ aBlock ∷ []))
 
 unfoldable pub answers : List Answer
 answers =
-    -- the recipe's own faults come first, at their places, whatever the image and the room: no Leave, an unknown kind, Open alone
+    -- the recipe's own faults come first, at their places, whatever the image and the room: an empty input, an unknown kind, no Leave
     record { input = []; image = []; room = 0; answer = Refused 20 0 }
     ∷ record { input = 0x01 ∷ 0x05 ∷ 0x0A ∷ 0x07 ∷ []; image = []; room = 0; answer = Refused 21 3 }
     ∷ record { input = 0x01 ∷ 0x05 ∷ 0x0A ∷ []; image = whole 0xFF; room = 0; answer = Refused 20 3 }

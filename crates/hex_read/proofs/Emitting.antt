@@ -18,7 +18,8 @@ use Rattle.recipe.specs.Items.{Item, block, row, addressBytes, printedItem, pri
 use Rattle.hex_rules.specs.Cells.{Cell, givenAt, byteAt, touched}
 use Rattle.hex_rules.specs.Recipe.{contents, itemAt, upward, itemsOf, recipeOf}
 use Rattle.hex_rules.specs.Converting.{bytesOf}
-use Rattle.hex_rules.proofs.EachItem.{blocksOf, rowsOf, printed-both}
+use Rattle.recipe.proofs.Printing.{printed-both}
+use Rattle.hex_rules.proofs.EachItem.{blocksOf, rowsOf}
 use Rattle.hex_put.specs.Internal.Table.{someMarked, lowBytes, touchedBytes, printedIn, bytesIn}
 use Rattle.hex_put.proofs.Whole.{blocks, rows}
 use Rattle.hex_read.specs.Internal.Marks.{Marks, placeOf, entryOf}

@@ -3,7 +3,7 @@
 -- Assumes nothing.
 use mathlib.Core.Path.{_≡_, refl, sym, ap, _∙_}
 use mathlib.Core.Bool.{true}
-use mathlib.Core.List.{List, [], _∷_, _++_, append-assoc}
+use mathlib.Core.List.{List, [], _∷_, _++_}
 use Prim.Native.Nat.{ℕ, zero, suc, _+_, _*_, _≤_, _<_}
 use native.Mathlib.Omega.{arith}
 use lib.ListN.{length, getD, length-append}
@@ -11,6 +11,7 @@ use Rattle.base.specs.Parts.{Bytes}
 use Rattle.base.proofs.Choice.{by-cond}
 use Rattle.recipe.specs.Items.{Item, block, row, printedItem, printedItems}
 use Rattle.recipe.specs.Plain.{Each}
+use Rattle.recipe.proofs.Printing.{printed-append}
 use Rattle.hex_rules.specs.Cells.{Cell, byteAt, touched}
 use Rattle.hex_rules.specs.Recipe.{contents, itemAt, upward}
 
@@ -47,16 +48,6 @@ rowsOf cells = upward row 8 cells 128 0xF00000
 pub each-append : (P : Item → Type 0) (is js : List Item) → Each P is → Each P js → Each P (is ++ js)
 each-append P [] js h k = k
 each-append P (i ∷ is) js h k = (h .0, each-append P is js (h .1) k)
-
--- items in two lists are printed one list behind the other
-pub printed-both : (is js : List Item) → printedItems (is ++ js) ≡ printedItems is ++ printedItems js
-unfolding printedItems
-printed-both [] js = refl
-printed-both (i ∷ is) js =
-    ap (λ (t : List ℕ). printedItem i ++ t) (printed-both is js) ∙ sym (append-assoc (printedItem i) (printedItems is) (printedItems js))
-
-pub printed-append : (is js : List Item) → length (printedItems (is ++ js)) ≡ length (printedItems is) + length (printedItems js)
-printed-append is js = ap length (printed-both is js) ∙ length-append (printedItems is) (printedItems js)
 
 module _ (item : ℕ → List ℕ → Item) (size : ℕ) (cells : List Cell) where
   -- what holds of the item of each touched part holds of every item

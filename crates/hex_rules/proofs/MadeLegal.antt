@@ -15,7 +15,8 @@ use Rattle.hex_rules.specs.Converting.{bytesOf}
 use Rattle.hex_rules.specs.Printing.{EachOnce}
 use Rattle.hex_rules.proofs.LegalCells.{flash-cell-block, eeprom-cell-row}
 use Rattle.hex_rules.proofs.GivenCells.{touched-legal, byte-small}
-use Rattle.hex_rules.proofs.EachItem.{blocksOf, rowsOf, contents-length, contents-bytes, each-append, printed-append}
+use Rattle.recipe.proofs.Printing.{printed-append}
+use Rattle.hex_rules.proofs.EachItem.{blocksOf, rowsOf, contents-length, contents-bytes, each-append}
 use Rattle.hex_rules.proofs.EachItem.{each-upward, few-upward, small-upward}
 
 each-legal : (is : List Item) → Each LegalItem is → LegalItems is

@@ -1,6 +1,6 @@
 -- What is printed is read back: Open, each legal item, Leave. So the bytes of a legal recipe are read as that recipe.
 -- Assumes nothing.
-use mathlib.Core.Path.{_≡_, refl, ap, _∙_}
+use mathlib.Core.Path.{_≡_, refl, sym, ap, _∙_}
 use mathlib.Core.Bool.{true, false}
 use mathlib.Core.List.{List, [], _∷_, _++_, append-assoc}
 use Prim.Native.Nat.{ℕ, suc, _+_, _-_, _≤_, _<_}
@@ -20,6 +20,16 @@ use Rattle.recipe.proofs.Steps.{read-on}
 -- the three bytes of an address give it back
 pub address-back : (a : ℕ) (rest : List ℕ) (kind : ℕ) → a < 0x1000000 → addressOf (kind ∷ (addressBytes a ++ rest)) ≡ a
 address-back a rest kind h = omega arith
+
+-- items in two lists are printed one list behind the other
+pub printed-both : (is js : List Item) → printedItems (is ++ js) ≡ printedItems is ++ printedItems js
+unfolding printedItems
+printed-both [] js = refl
+printed-both (i ∷ is) js =
+    ap (λ (t : List ℕ). printedItem i ++ t) (printed-both is js) ∙ sym (append-assoc (printedItem i) (printedItems is) (printedItems js))
+
+pub printed-append : (is js : List Item) → length (printedItems (is ++ js)) ≡ length (printedItems is) + length (printedItems js)
+printed-append is js = ap length (printed-both is js) ∙ length-append (printedItems is) (printedItems js)
 
 -- behind the first item and before Leave, Block and Row and Leave are in place
 inside : (number : ℕ) → 2 ≤ number → eqb number 1 ≡ false

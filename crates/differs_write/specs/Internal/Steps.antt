@@ -71,7 +71,7 @@ otherLength (Frames count) = differs.Refused 36 0
 pub record FoundKept (recipe image : List ℕ) (dropped erases : ℕ) (places : List ℕ) : Type 0 where
   pub accepted : checked recipe ≡ Frames (frameCount (recipeOf recipe))
   pub bytes : Bytes recipe
-  pub few : dropped ≤ 2048
+  pub few : dropped ≤ length places
   pub upward : Upward 0 (take dropped places) (length recipe)
   pub items : cutOut recipe 0 (take dropped places) ≡ printed (keptOf recipe image)
   pub blocks : erases ≡ blockCount (keptOf recipe image .items)

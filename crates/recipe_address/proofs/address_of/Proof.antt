@@ -1,38 +1,38 @@
--- `recipe_address::address_of` meets its contract: the three bytes behind the kind, and none behind the end.
+-- `recipe_address::address_of` meets its contract: behind the test the three bytes are the list's own, which the definition takes; else
+-- it is `short_address`, which promises the same.
 -- Assumes nothing.
-use mathlib.Core.Path.{_∙_}
 use native.Mathlib.Omega.{arith}
-use Rattle.recipe_address.proofs.Laws.{address-at, address-behind}
+use Rattle.recipe_address.proofs.Laws.{address-at}
 use borrow.Author.Needs.{needs}
 use Rattle.recipe_address.proofs.address_of.Statement.{statement}
 use Rattle.recipe_address.proofs.address_of.Tie as tie
 
-returns : tie.Need-returns
-returns c = (address-behind (c .before .before .args .input .now) (c .before .before .args .place) (c .if1 .taken), omega arith)
+sub-if2 : tie.Need-sub-if2
+sub-if2 c = search needs
 
-add-byte-at : tie.Need-add-byte-at
-add-byte-at c = search needs
+add-wide : tie.Need-add-wide
+add-wide c = search needs
 
-byte-at-requires : tie.Need-byte-at-requires
-byte-at-requires c κs = search needs
+shared-slice-read-wide : tie.Need-shared-slice-read-wide
+shared-slice-read-wide c = search needs
 
 wide-requires : tie.Need-wide-requires
 wide-requires c κs = search needs
 
-add-byte-at-2 : tie.Need-add-byte-at-2
-add-byte-at-2 c = search needs
+add-wide-2 : tie.Need-add-wide-2
+add-wide-2 c = search needs
 
-byte-at-requires-2 : tie.Need-byte-at-requires-2
-byte-at-requires-2 c κs = search needs
+shared-slice-read-wide-2 : tie.Need-shared-slice-read-wide-2
+shared-slice-read-wide-2 c = search needs
 
 wide-requires-2 : tie.Need-wide-requires-2
 wide-requires-2 c κs = search needs
 
-add-byte-at-3 : tie.Need-add-byte-at-3
-add-byte-at-3 c = search needs
+add-wide-3 : tie.Need-add-wide-3
+add-wide-3 c = search needs
 
-byte-at-requires-3 : tie.Need-byte-at-requires-3
-byte-at-requires-3 c κs = search needs
+shared-slice-read-wide-3 : tie.Need-shared-slice-read-wide-3
+shared-slice-read-wide-3 c = search needs
 
 wide-requires-3 : tie.Need-wide-requires-3
 wide-requires-3 c κs = search needs
@@ -49,32 +49,40 @@ add-result c = search needs
 add-result-2 : tie.Need-add-result-2
 add-result-2 c = search needs
 
-returns-2 : tie.Need-returns-2
-returns-2 c = (
-  address-at (c .before .before .before .before .before .before .before .before .args .input .now)
-      (c .before .before .before .before .before .before .before .before .args .place) _ _ _
-      (c .before .before .before .before .wide .ensures .0 ∙ c .before .before .before .before .before .byte-at .ensures)
-      (c .before .before .wide2 .ensures .0 ∙ c .before .before .before .byte-at2 .ensures)
-      (c .wide3 .ensures .0 ∙ c .before .byte-at3 .ensures),
+returns : tie.Need-returns
+returns c = (
+  address-at (c .before .before .before .before .before .before .before .before .before .args .input .now)
+      (c .before .before .before .before .before .before .before .before .before .args .place) _ _ _
+      (c .before .before .before .before .wide .ensures .0)
+      (c .before .before .wide2 .ensures .0)
+      (c .wide3 .ensures .0),
   omega (arith, c .before .before .before .before .wide .ensures .1, c .before .before .wide2 .ensures .1, c .wide3 .ensures .1),
 )
+
+short-address-requires : tie.Need-short-address-requires
+short-address-requires c κs = search needs
+
+returns-2 : tie.Need-returns-2
+returns-2 c = search needs
 
 pub address-of-spec : {M : Type 1} → statement M
 address-of-spec =
     tie.close
     (tie.spec
-    returns
-    add-byte-at
-    byte-at-requires
+    sub-if2
+    add-wide
+    shared-slice-read-wide
     wide-requires
-    add-byte-at-2
-    byte-at-requires-2
+    add-wide-2
+    shared-slice-read-wide-2
     wide-requires-2
-    add-byte-at-3
-    byte-at-requires-3
+    add-wide-3
+    shared-slice-read-wide-3
     wide-requires-3
     mul-result
     mul-result-2
     add-result
     add-result-2
+    returns
+    short-address-requires
     returns-2)
