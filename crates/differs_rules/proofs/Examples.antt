@@ -21,25 +21,25 @@ use Rattle.differs_rules.specs.Writing.{keptOf, differences, differences
 use Rattle.differs_rules.specs.Examples.{examples, AllKept, answers, AllAnswered, Written, Mistaken, aBlock, aRow, recipe, cells, whole}
 
 -- what is kept, and how many erases that is
-pub examples-hold : AllKept examples
+pub kept-examples-hold : AllKept examples
 unfolding examples keptItems blockCount
-examples-hold =
+kept-examples-hold =
     (refl, refl, (refl, refl, (refl, refl, (refl, refl, (refl, refl, (refl, refl, (refl, refl, (refl, refl, (refl, refl, (refl, refl, (refl, refl, (refl, refl, (refl, refl, (refl, refl, (refl, refl, (refl, refl, (refl, refl, (refl, refl, (refl, refl, (refl, refl, tt))))))))))))))))))))
 
 -- the answers
-pub answers-hold : AllAnswered answers
+pub kept-answers-hold : AllAnswered answers
 unfolding answers differences keptOf keptRecipe keptItems blockCount checked reading readFrom faultAt rulesAt ruled recipeOf itemsCount frameCount printed printedItems
-answers-hold = (refl, (refl, (refl, (refl, (refl, (refl, (refl, (refl, (refl, (refl, (refl, tt)))))))))))
+kept-answers-hold = (refl, (refl, (refl, (refl, (refl, (refl, (refl, (refl, (refl, (refl, (refl, tt)))))))))))
 
 -- the output
-pub written-holds : Written
+pub kept-written-holds : Written
 unfolding differencesOutput differences keptOf keptRecipe keptItems blockCount checked reading readFrom faultAt rulesAt ruled recipeOf itemsCount frameCount printed printedItems
-written-holds = record { output = refl; untouched = refl }
+kept-written-holds = record { output = refl; untouched = refl }
 
 -- an image that is not the node's
-pub mistaken-holds : Mistaken
+pub mistaken-image-holds : Mistaken
 unfolding keptRecipe keptItems plainly plainItems
-mistaken-holds =
+mistaken-image-holds =
     record {
       nothing = refl;
       keeps = refl;

@@ -111,9 +111,11 @@ agrees-self [] flash = tt
 agrees-self (block a d ∷ is) flash = (refl, agrees-self is flash)
 agrees-self (row a d ∷ is) flash = (tt, agrees-self is flash)
 
+-- a FLASH that is the image is so on every Block's cells
+pub agrees-equal : (is : List Item) (image flash : List ℕ) → flash ≡ image → Each (AgreesOn image flash) is
+agrees-equal is image flash e = subst (λ (f : List ℕ). Each (AgreesOn f flash) is) e (agrees-self is flash)
+
 -- above all over the image itself
 pub kept-plain-equal : (r : Recipe) (image : List ℕ) (m : Memories) → Legal r → length image ≡ flashCells → m .flash ≡ image
     → plainly (keptRecipe r image) m ≡ plainly r m
-kept-plain-equal r image m h l e =
-    kept-plain r image m h l (ap length e ∙ l)
-    (subst (λ (f : List ℕ). Each (AgreesOn f (m .flash)) (r .items)) e (agrees-self (r .items) (m .flash)))
+kept-plain-equal r image m h l e = kept-plain r image m h l (ap length e ∙ l) (agrees-equal (r .items) image (m .flash) e)
