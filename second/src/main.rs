@@ -7,6 +7,17 @@ mod before_a4;
 mod changed_by_a4;
 mod coverage;
 mod coverage_rows;
+mod difference_coverage;
+mod difference_drafts;
+mod difference_file;
+mod difference_files;
+mod difference_looks;
+mod difference_recipes;
+mod difference_rows;
+#[cfg(test)]
+mod difference_samples;
+mod difference_stream;
+mod differences;
 mod digest;
 mod event;
 mod explain;
@@ -51,6 +62,7 @@ mod uart_coverage;
 mod way_coverage;
 #[cfg(test)]
 mod ways_samples;
+mod write_differences;
 
 use before_a4::Rule;
 use generate::Kind;
@@ -80,7 +92,12 @@ second hex-texts SEED COUNT > stream
 second read-hex < stream
 second hex-coverage < stream
 second hex FILE MODULE GROUP > recipe
-second hex-files SEED COUNT DIR";
+second hex-files SEED COUNT DIR
+second difference-recipes SEED COUNT > stream
+second write-differences < stream
+second difference-coverage < stream
+second differences RECIPE IMAGE [OUT]
+second difference-files SEED COUNT DIR";
 
 /// All of standard input.
 fn input() -> io::Result<Vec<u8>> {
@@ -177,6 +194,32 @@ fn run(arguments: &[&str], out: &mut impl Write) -> io::Result<Option<String>> {
         ["hex-files", seed, count, folder] => {
             let (seed, count) = (number(seed)?, number(count)? as usize);
             hex_files::hex_files(seed, count, folder).map(|_| None)
+        }
+        ["difference-recipes", seed, count] => {
+            let (seed, count) = (number(seed)?, number(count)? as usize);
+            difference_recipes::difference_recipes(seed, count, out).map(|_| None)
+        }
+        ["write-differences"] => write_differences::write_differences(&input()?, out),
+        ["difference-coverage"] => {
+            Ok(complaint(difference_coverage::difference_coverage(&input()?, out)?))
+        }
+        ["differences", recipe, image, to @ ..] if to.len() < 2 => {
+            let (recipe, image) =
+                (difference_file::recipe(recipe)?, difference_file::image(image)?);
+            let (shorter, erases) = match difference_file::shorter(&recipe, &image) {
+                Ok(made) => made,
+                Err(line) => return Ok(Some(line)),
+            };
+            match to {
+                [file] => std::fs::write(file, shorter)?,
+                _ => out.write_all(&shorter).and_then(|_| out.flush())?,
+            }
+            eprintln!("{erases} erases");
+            Ok(None)
+        }
+        ["difference-files", seed, count, folder] => {
+            let (seed, count) = (number(seed)?, number(count)? as usize);
+            difference_files::difference_files(seed, count, folder).map(|_| None)
         }
         _ => Ok(Some(USAGE.to_string())),
     }
