@@ -1,13 +1,12 @@
 -- What is kept, item by item: items behind others are looked at over what those leave, and a Block is dropped exactly if its cells stand.
 -- Assumes nothing.
 use mathlib.Core.Path.{_≡_, _∙_, refl, sym, ap}
-use mathlib.Core.Bool.{Bool, true, false, cond}
+use mathlib.Core.Bool.{true, false, cond}
 use mathlib.Core.List.{List, [], _∷_, _++_, append-assoc, append-nil}
 use Prim.Native.Nat.{ℕ, _+_}
 use native.Mathlib.Nat.{zero-add, add-assoc}
 use lib.ListN.{length}
 use Rattle.base.specs.Parts.{part}
-use Rattle.memory_same.specs.Same.{same}
 use Rattle.memory_same.proofs.Laws.{same-equal, equal-same, same-unequal}
 use Rattle.recipe.specs.Items.{Item, block, row}
 use Rattle.recipe.specs.Plain.{Memories, plainItem, plainItems}

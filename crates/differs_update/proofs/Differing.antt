@@ -4,7 +4,7 @@
 use mathlib.Core.Path.{_≡_, _∙_, refl, sym, ap, subst}
 use mathlib.Core.Bool.{true, false}
 use mathlib.Core.List.{List, _++_}
-use mathlib.Core.Logic.{_⊎_, inl, inr, ⊎-elim}
+use mathlib.Core.Logic.{_⊎_, ⊎-elim}
 use Prim.Native.Nat.{ℕ, _≤_, _<_}
 use native.Mathlib.Omega.{arith}
 use lib.Dec.{eqb, ltb}
@@ -14,7 +14,6 @@ use borrow.Author.Tests.{eqb-true, eqb-false, ltb-true, ltb-false}
 use Rattle.base.specs.Parts.{Bytes}
 use Rattle.base.proofs.Choice.{true-or-false}
 use Rattle.memory_address.specs.Places.{flashCells}
-use Rattle.recipe.specs.declared.Translated.{Translated}
 use Rattle.recipe.specs.declared.Translated.the-variants.{Frames, Refused as Fault}
 use Rattle.recipe.specs.Items.{Recipe, Legal, printed}
 use Rattle.recipe.specs.Frames.{frameCount}

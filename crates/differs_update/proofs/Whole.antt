@@ -2,9 +2,9 @@
 -- and the node ends as the full recipe would have left it. Over the real contracts of `differences`, of the translator and of each way of
 -- delivery: demand 3 says what an arrived recipe leaves, and what is kept, read plainly, leaves what the whole does.
 -- Assumes nothing.
-use mathlib.Core.Path.{_≡_, _∙_, refl, sym, ap, ap₂, subst}
+use mathlib.Core.Path.{_≡_, _∙_, sym, ap, ap₂, subst}
 use mathlib.Core.List.{List, _∷_, _++_}
-use Prim.Native.Nat.{ℕ, _*_, _≤_, _<_}
+use Prim.Native.Nat.{ℕ, _*_, _≤_}
 use lib.ListN.{length, take, drop}
 use lib.Seq.{take-append-seam}
 use Rattle.base.specs.Parts.{part}
@@ -16,7 +16,7 @@ use Rattle.recipe.specs.declared.Translated.{Translated}
 use Rattle.recipe.specs.declared.Translated.the-variants.{Frames}
 use Rattle.recipe.specs.Items.{Item, block, Recipe, Legal, printed}
 use Rattle.recipe.specs.Frames.{framesOf, joined, frameCount}
-use Rattle.recipe.specs.Plain.{Memories, plainly, Each}
+use Rattle.recipe.specs.Plain.{Memories, Each}
 use Rattle.recipe.proofs.Accepts.{printed-once}
 use Rattle.update_rules.specs.Updated.{Ready, Full, over, leftWhole, Arrived}
 use Rattle.update_deliver.specs.Delivering.{Left}

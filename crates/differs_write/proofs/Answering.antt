@@ -18,7 +18,6 @@ use Rattle.recipe.specs.Reading.{recipeOf}
 use Rattle.recipe.specs.Translation.{checked}
 use Rattle.differs_rules.specs.declared.Differences.{Differences}
 use Rattle.differs_rules.specs.declared.Differences.the-variants.{Kept, Refused}
-use Rattle.differs_rules.specs.Keeping.{blockCount}
 use Rattle.differs_rules.specs.Writing.{keptOf, differences, differencesOutput}
 use Rattle.differs_rules.proofs.Answering.{fault-first, image-then, room-last, else-kept, refusal-untouched, output-kept}
 use Rattle.differs_write.specs.Taken.{BytesIfKept}

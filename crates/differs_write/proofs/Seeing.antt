@@ -3,9 +3,8 @@
 -- end that is the definition's answer.
 -- Assumes nothing.
 use mathlib.Core.Path.{_≡_, _∙_, refl, sym, ap, ap₂, subst}
-use mathlib.Core.Bool.{Bool, true, false, cond, true≢false, false≢true}
+use mathlib.Core.Bool.{Bool, true, false, cond, false≢true}
 use mathlib.Core.List.{List, [], _∷_, _++_, append-nil, append-assoc}
-use mathlib.Core.Logic.{_⊎_, inl, inr, ⊎-elim}
 use Prim.Native.Nat.{ℕ, zero, suc, _+_, _*_, _≤_, _<_, zero-le}
 use native.Mathlib.Omega.{arith}
 use native.Mathlib.Nat.{add-zero, le-refl}
@@ -15,10 +14,10 @@ use lib.ListN.{length, getD, set, take, drop, replicate, length-set, length-repl
 use lib.Seq.{getD-set-same, getD-set-other, set-out, take-set-le, take-suc-set}
 use borrow.Author.Tests.{eqb-true, eqb-false, ne-eqb, ltb-true, ltb-false}
 use Rattle.base.specs.Parts.{Bytes, part}
-use Rattle.base.proofs.Choice.{by-cond, cond-false, true-or-false}
+use Rattle.base.proofs.Choice.{by-cond, cond-false}
 use Rattle.memory_address.specs.Places.{flashCells}
-use Rattle.recipe.specs.declared.Translated.the-variants.{Frames, Refused as Fault}
-use Rattle.recipe.specs.Items.{Item, printed, printedItems, opened}
+use Rattle.recipe.specs.declared.Translated.the-variants.{Refused as Fault}
+use Rattle.recipe.specs.Items.{Item, printed, opened}
 use Rattle.recipe.specs.Frames.{frameCount}
 use Rattle.recipe.specs.Faults.{kindOf, bodyLength, faultAt}
 use Rattle.recipe.specs.Reading.{Reading, Stop, atEnd, fault, sizeOf, itemsAt, withItems, reading, recipeOf}
@@ -30,9 +29,9 @@ use Rattle.differs_rules.specs.Keeping.{leftByAll, keptItems, keptRecipe, block
 use Rattle.differs_rules.specs.Writing.{keptOf}
 use Rattle.differs_rules.proofs.Keeping.{kept-append, left-append, blocks-append}
 use Rattle.differs_write.specs.declared.walk.Walk.{Walk}
-use Rattle.differs_write.specs.Internal.Cutting.{cutOut, Upward}
+use Rattle.differs_write.specs.Internal.Cutting.{Upward}
 use Rattle.differs_write.specs.Internal.Standing.{AtBlock}
-use Rattle.differs_write.specs.Internal.Steps.{keepsAt, lastAfter, rememberedAt, erasesOfKind, nextWalk, Small, FoundKept}
+use Rattle.differs_write.specs.Internal.Steps.{keepsAt, lastAfter, erasesOfKind, nextWalk, Small, FoundKept}
 use Rattle.differs_write.proofs.Cutting.{cutTo, upward-more, upward-last, cut-more, cut-last, cut-all}
 use Rattle.differs_write.proofs.Showing.{Shows, shows-start}
 use Rattle.differs_write.proofs.Turning.{Turned, written, turned, at-block}

@@ -1,22 +1,22 @@
 -- The table of last Blocks tells FLASH as the items before leave it: block by block, the image's cells or those of the last Block for it. A
 -- Block more changes its own block's cells and no others, since legal Blocks stand at multiples of 64.
 -- Assumes nothing.
-use mathlib.Core.Path.{_≡_, _∙_, refl, sym, ap, ap₂, subst}
+use mathlib.Core.Path.{_≡_, _∙_, refl, sym, ap, subst}
 use mathlib.Core.Bool.{Bool, true, false}
 use mathlib.Core.List.{List}
 use mathlib.Core.Logic.{_⊎_, inl, inr, ⊎-elim}
-use Prim.Native.Nat.{ℕ, suc, _+_, _*_, _/_, _%_, _≤_, _<_}
+use Prim.Native.Nat.{ℕ, _+_, _*_, _/_, _%_, _≤_, _<_}
 use native.Mathlib.Omega.{arith}
 use lib.Dec.{eqb, ltb}
 use lib.ListN.{length, getD, set, replicate, getD-replicate}
 use lib.Seq.{ext-getD, getD-set-same, getD-set-other}
 use borrow.Author.Tests.{eqb-true, eqb-false, ne-eqb, ltb-true, ltb-false}
 use Rattle.base.specs.Parts.{part, patch}
-use Rattle.base.proofs.Choice.{true-or-false, cond-true, cond-false}
+use Rattle.base.proofs.Choice.{true-or-false, cond-false}
 use Rattle.base.proofs.Patched.{part-length, part-cell, part-patch, elsewhere-patch, length-patch}
 use Rattle.memory_address.specs.Places.{flashCells}
 use Rattle.memory_same.specs.Same.{same}
-use Rattle.recipe.specs.Items.{Item, block}
+use Rattle.recipe.specs.Items.{block}
 use Rattle.recipe.proofs.Plainly.{sets-patch}
 use Rattle.differs_rules.specs.Keeping.{leftBy, stands}
 use Rattle.differs_write.specs.Internal.Standing.{standing}

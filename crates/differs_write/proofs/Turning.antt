@@ -3,14 +3,14 @@
 -- Assumes nothing.
 use mathlib.Core.Path.{_≡_, _∙_, refl, sym, ap, ap₂, subst}
 use mathlib.Core.Bool.{Bool, true, false, not, cond, true≢false}
-use mathlib.Core.List.{List, [], _∷_, _++_, append-nil, append-assoc}
-use mathlib.Core.Logic.{_⊎_, inl, inr, ⊎-elim}
-use Prim.Native.Nat.{ℕ, suc, _+_, _*_, _/_, _%_, _≤_, _<_}
+use mathlib.Core.List.{List, [], _∷_, _++_, append-nil}
+use mathlib.Core.Logic.{_⊎_, ⊎-elim}
+use Prim.Native.Nat.{ℕ, _+_, _/_, _%_, _≤_, _<_}
 use native.Mathlib.Omega.{arith}
 use lib.Dec.{eqb}
-use lib.ListN.{length, getD, set, take, drop, length-drop}
+use lib.ListN.{length, getD, take, drop}
 use lib.Seq.{drop-drop, take-at}
-use borrow.Author.Tests.{eqb-true, eqb-false, eq-eqb, ne-eqb, not-false}
+use borrow.Author.Tests.{eqb-true, eq-eqb, ne-eqb, not-false}
 use Rattle.base.specs.Parts.{Bytes, part}
 use Rattle.base.proofs.Bytes.{bytes-drop}
 use Rattle.base.proofs.Choice.{neither, cond-true, cond-false}
@@ -28,8 +28,8 @@ use Rattle.recipe.proofs.OnlyLegal.{kinds, item-bytes}
 use Rattle.recipe.proofs.Printing.{printed-both}
 use Rattle.recipe_fault.specs.Internal.Steps.{AtItem}
 use Rattle.recipe_fault.proofs.Faulting.{kind-at}
-use Rattle.recipe_fault.proofs.Walking.{item-inside, not-ended}
-use Rattle.differs_rules.specs.Keeping.{leftBy, leftByAll, stands, keptItems, erasesOf, blockCount}
+use Rattle.recipe_fault.proofs.Walking.{item-inside}
+use Rattle.differs_rules.specs.Keeping.{leftBy, leftByAll, stands, keptItems, blockCount}
 use Rattle.differs_rules.proofs.Keeping.{kept-one, left-one}
 use Rattle.differs_write.specs.Internal.Standing.{standing, AtBlock}
 use Rattle.differs_write.specs.Internal.Steps.{differsAt, rememberedAt, keepsAt, lastAfter, erasesOfKind}

@@ -84,33 +84,23 @@ pub fn arguments() -> Asked {
     numbers()
 }
 
-// Reads until buf is full or the input ends. Unread where a read fails.
-fn read_all(fd: i32, buf: &mut [u8]) -> Input {
-    let mut done: usize = 0;
-    while done < buf.len() {
-        let got = libc::read(fd, &mut buf[done..]);
-        if got < 0 {
-            return Input::Unread;
-        }
-        let more = io::count(got, &buf[done..]);
-        if more == 0 {
-            return Input::Bytes(done);
-        }
-        done += more;
-    }
-    Input::Bytes(done)
+// Whether nothing is left to be read. Neither a failure nor a byte that comes after one is an end.
+fn ended(fd: i32) -> bool {
+    let mut one = [0u8; 1];
+    libc::read(fd, &mut one) == 0
 }
 
-// The same, with a message under this name where a read fails.
+// Reads until buf is full or the input ends, with a message under this name where a read fails.
 fn read_named(fd: i32, name: &[u8], buf: &mut [u8]) -> Input {
-    let input = read_all(fd, buf);
-    match input {
-        Input::Bytes(n) => Input::Bytes(n),
-        Input::Unread => {
-            os::fail(name);
-            Input::Unread
-        }
+    let n = io::read_full(fd, buf);
+    if n == buf.len() {
+        return Input::Bytes(n);
     }
+    if ended(fd) {
+        return Input::Bytes(n);
+    }
+    os::fail(name);
+    Input::Unread
 }
 
 // The same of the file of this name, with a message where it can't be opened.

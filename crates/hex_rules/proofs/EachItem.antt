@@ -1,7 +1,7 @@
 -- What holds of every item of a recipe of cells, and how many there are: an item stands only where one of its places is given, at the
 -- first place and then always its size on. One law for blocks and rows, by induction over how many there may be.
 -- Assumes nothing.
-use mathlib.Core.Path.{_≡_, refl, sym, ap, _∙_}
+use mathlib.Core.Path.{_≡_, refl, ap, _∙_}
 use mathlib.Core.Bool.{true}
 use mathlib.Core.List.{List, [], _∷_, _++_}
 use Prim.Native.Nat.{ℕ, zero, suc, _+_, _*_, _≤_, _<_}

@@ -1,5 +1,5 @@
 -- FLASH as the Blocks of a recipe leave it, told by where in the recipe the last Block for each block has its cells.
-use Prim.Native.Nat.{ℕ, _+_, _*_, _/_, _≤_, _<_}
+use Prim.Native.Nat.{ℕ, _+_, _/_, _≤_, _<_}
 use mathlib.Core.Path.{_≡_}
 use mathlib.Core.Bool.{cond}
 use mathlib.Core.List.{List}

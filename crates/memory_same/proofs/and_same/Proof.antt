@@ -1,6 +1,5 @@
 -- `memory_same::and_same` meets its contract, by its test.
 -- Assumes nothing.
-use borrow.Author.Needs.{needs}
 use Rattle.memory_same.proofs.and_same.Statement.{statement}
 use Rattle.memory_same.proofs.and_same.Tie as tie
 
