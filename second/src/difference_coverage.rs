@@ -5,7 +5,7 @@ use crate::difference_stream::{read, DifferenceTrial, Patch, MOST_ROOM};
 use crate::differences::{self, block, item, BLOCK_BYTES, MOST_RECIPE};
 use crate::memory::{BLOCK, FLASH_CELLS};
 use crate::recipe::{items, BLOCK_ITEM, LEAVE, MOST_ITEMS};
-use std::collections::HashMap;
+use crate::row_counts;
 use std::io::{self, Write};
 
 /// The images and the outputs with which a recipe's own faults come.
@@ -288,21 +288,6 @@ fn rows(trial: &DifferenceTrial) -> Vec<String> {
 
 /// Prints the table of counts; gives the rows that were never reached.
 pub fn difference_coverage(stream: &[u8], out: &mut impl Write) -> io::Result<Vec<String>> {
-    let mut counts: HashMap<String, u64> = HashMap::new();
     let trials = read(stream);
-    for trial in &trials {
-        for row in rows(trial) {
-            *counts.entry(row).or_default() += 1;
-        }
-    }
-    writeln!(out, "{:>9} recipes", trials.len())?;
-    let mut missing = Vec::new();
-    for row in wanted() {
-        let count = counts.get(&row).copied().unwrap_or(0);
-        writeln!(out, "{count:>9} {row}")?;
-        if count == 0 {
-            missing.push(row);
-        }
-    }
-    Ok(missing)
+    row_counts::tell(trials.len(), "recipes", trials.iter().flat_map(rows), wanted(), out)
 }

@@ -5,7 +5,7 @@ use crate::hex_faults::{examine, inside, verdict, Ending, Line};
 use crate::hex_good_rows::{self, good_rows};
 use crate::hex_line_rows::{self, line_rows};
 use crate::hex_stream::{read, HexTrial};
-use std::collections::HashMap;
+use crate::row_counts;
 use std::io::{self, Write};
 
 /// Two checks that fail at one line: of those from 30 to 34 each pair, where both can be looked at,
@@ -167,21 +167,6 @@ fn rows(trial: &HexTrial) -> Vec<String> {
 
 /// Prints the table of counts; gives the rows that were never reached.
 pub fn hex_coverage(stream: &[u8], out: &mut impl Write) -> io::Result<Vec<String>> {
-    let mut counts: HashMap<String, u64> = HashMap::new();
     let trials = read(stream);
-    for trial in &trials {
-        for row in rows(trial) {
-            *counts.entry(row).or_default() += 1;
-        }
-    }
-    writeln!(out, "{:>9} texts", trials.len())?;
-    let mut missing = Vec::new();
-    for row in wanted() {
-        let count = counts.get(&row).copied().unwrap_or(0);
-        writeln!(out, "{count:>9} {row}")?;
-        if count == 0 {
-            missing.push(row);
-        }
-    }
-    Ok(missing)
+    row_counts::tell(trials.len(), "texts", trials.iter().flat_map(rows), wanted(), out)
 }

@@ -52,6 +52,7 @@ mod recipe_files;
 mod recipe_stream;
 mod recipes;
 mod recipes_in_pieces;
+mod row_counts;
 #[cfg(test)]
 mod samples;
 mod session;

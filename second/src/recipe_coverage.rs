@@ -6,7 +6,7 @@ use crate::memory::Command;
 use crate::node::{Staged, Way, HELD};
 use crate::recipe::{body_length, illegal, items, translate, Refusal, LEAVE, MOST_ITEMS, OPEN};
 use crate::recipe_stream::{read, Trial};
-use std::collections::HashMap;
+use crate::row_counts;
 use std::io::{self, Write};
 
 /// Every row that a stream ought to reach. A first item is never 24 (it must be Open) or 25, and
@@ -297,31 +297,21 @@ fn wanted() -> Vec<String> {
     rows
 }
 
+/// The rows of a recipe.
+fn rows(trial: &Trial) -> Vec<String> {
+    let mut output = vec![0; trial.output];
+    let translated = translate(&trial.recipe, &mut output);
+    let noise = translated.map_or(vec![], |_| noise_rows(trial, &output));
+    let rows = match translated {
+        translated if trial.uart && trial.piece > 0 => in_pieces(trial, translated),
+        Ok(count) => accepted(trial, count),
+        Err(refusal) => refused(trial, refusal.number, refusal.place),
+    };
+    rows.into_iter().chain(noise).collect()
+}
+
 /// Prints the table of counts; gives the rows that were never reached.
 pub fn recipe_coverage(stream: &[u8], out: &mut impl Write) -> io::Result<Vec<String>> {
-    let mut counts: HashMap<String, u64> = HashMap::new();
     let trials = read(stream);
-    for trial in &trials {
-        let mut output = vec![0; trial.output];
-        let translated = translate(&trial.recipe, &mut output);
-        let noise = translated.map_or(vec![], |_| noise_rows(trial, &output));
-        let rows = match translated {
-            translated if trial.uart && trial.piece > 0 => in_pieces(trial, translated),
-            Ok(count) => accepted(trial, count),
-            Err(refusal) => refused(trial, refusal.number, refusal.place),
-        };
-        for row in rows.into_iter().chain(noise) {
-            *counts.entry(row).or_default() += 1;
-        }
-    }
-    writeln!(out, "{:>9} recipes", trials.len())?;
-    let mut missing = Vec::new();
-    for row in wanted() {
-        let count = counts.get(&row).copied().unwrap_or(0);
-        writeln!(out, "{count:>9} {row}")?;
-        if count == 0 {
-            missing.push(row);
-        }
-    }
-    Ok(missing)
+    row_counts::tell(trials.len(), "recipes", trials.iter().flat_map(rows), wanted(), out)
 }
