@@ -38,7 +38,10 @@ fn without_end(mut text: Vec<u8>) -> Vec<u8> {
 /// bytes as there may be, accepted and refused at lines above 65,535, and of one byte more.
 fn limits(random: &mut Random) -> Vec<Vec<u8>> {
     let most = of_length(b"", END_RECORD, MOST_BYTES);
-    let cells = without_end(full(random, 1).written(random));
+    let cells = (1..=16)
+        .map(|bytes| without_end(full(random, bytes).written(random)))
+        .find(|text| text.len() + END_RECORD.len() <= MOST_BYTES)
+        .expect("all cells in records of 16 bytes fit");
     let mut bad_sum = most.clone();
     bad_sum[MOST_BYTES - 1] = b'E';
     let early_end = [END_RECORD, b"\n", END_RECORD].concat();
