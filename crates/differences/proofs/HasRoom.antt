@@ -26,7 +26,8 @@ use Rattle.differs_rules.specs.Writing.{keptOf, unlessRefused, answered, differ
 use Rattle.differs_write.proofs.differences.{signature}
 use Rattle.differs_write.proofs.differences.Kinds as kinds
 use Rattle.differs_write.proofs.differences.Reads as reads
-use Rattle.differences.proofs.Within.{kept-within, blocks-within, recipe-within, stops-numbered}
+use Rattle.differs_rules.proofs.KeptLegal.{kept-shorter}
+use Rattle.differences.proofs.Within.{blocks-within, recipe-within, stops-numbered}
 
 -- the numbers of the program's refusals
 abbrev Said : ℕ → Type 0
@@ -49,7 +50,7 @@ not-kept q = let z : _≡_ {A = ℕ} 0 1 = cc in omega arith
 -- what is kept of a recipe whose bytes are read to their end takes no more of them
 kept-of-within : (recipe image : List ℕ) → reading recipe .stop ≡ atEnd true → length (printed (keptOf recipe image)) ≤ length recipe
 unfolding keptOf
-kept-of-within recipe image s = omega (arith, kept-within (recipeOf recipe) image, recipe-within recipe s)
+kept-of-within recipe image s = omega (arith, kept-shorter (recipeOf recipe) image, recipe-within recipe s)
 
 -- where the recipe has no fault and the room does
 unless-said : (kept : Recipe) (cells room number place : ℕ) → length (printed kept) ≤ room

@@ -1,9 +1,8 @@
--- What is read of a recipe's bytes is printed in no more of them, and what is kept of it in no more than all of it; and which faults a
--- reading stops at. Of any numbers, bytes or not: of a refusal the call doesn't say that its recipe holds bytes.
+-- What is read of a recipe's bytes is printed in no more of them, and has no more Blocks than bytes; and which faults a reading stops at. Of any numbers, bytes or not: of a refusal the call doesn't say that its recipe holds bytes.
 -- Assumes nothing.
 use mathlib.Core.Path.{_≡_, refl, sym, ap, subst, _∙_}
 use mathlib.Core.Bool.{Bool, true, false, cond, not, true≢false}
-use mathlib.Core.List.{List, [], _∷_, _++_}
+use mathlib.Core.List.{List, [], _∷_}
 use mathlib.Core.Logic.{⊎-elim}
 use Prim.Native.Nat.{ℕ, zero, suc, _+_, _≤_}
 use native.Mathlib.Omega.{arith}
@@ -17,34 +16,10 @@ use Rattle.recipe.specs.Reading.{Reading, atEnd, fault, sizeOf, itemsAt, withIt
 use Rattle.recipe.proofs.Order.{Faultless, faultless}
 use Rattle.recipe.proofs.OnlyLegal.{kinds}
 use Rattle.recipe.proofs.Steps.{read-end, read-fault, read-on}
-use Rattle.differs_rules.specs.Keeping.{leftBy, stands, keptItems, keptRecipe, blockCount}
+use Rattle.differs_rules.specs.Keeping.{blockCount}
+use Rattle.differs_rules.proofs.KeptLegal.{printed-length}
 
 -- ---- how many bytes are printed
-
--- Open and Leave are four
-pub printed-size : (r : Recipe) → length (printed r) ≡ 4 + length (printedItems (r .items))
-unfolding printed
-printed-size r = omega (arith, length-append (printedItems (r .items)) (0x0F ∷ []))
-
--- an item that is kept or not takes no more bytes than the item
-one-within : (b : Bool) (i : Item) (is js : List Item) → length (printedItems js) ≤ length (printedItems is)
-    → length (printedItems (cond b [] (i ∷ []) ++ js)) ≤ length (printedItems (i ∷ is))
-unfolding printedItems
-one-within true i is js h = omega (arith, h, length-append (printedItem i) (printedItems is))
-one-within false i is js h =
-    omega (arith, h, length-append (printedItem i) (printedItems is), length-append (printedItem i) (printedItems js))
-
-kept-items-within : (is : List Item) (flash : List ℕ) → length (printedItems (keptItems is flash)) ≤ length (printedItems is)
-unfolding keptItems
-kept-items-within [] flash = omega arith
-kept-items-within (i ∷ is) flash =
-    one-within (stands i flash) i is (keptItems is (leftBy i flash)) (kept-items-within is (leftBy i flash))
-
--- what is kept of a recipe takes no more bytes than the recipe
-pub kept-within : (r : Recipe) (image : List ℕ) → length (printed (keptRecipe r image)) ≤ length (printed r)
-unfolding keptRecipe
-kept-within r image =
-    omega (arith, printed-size r, printed-size (keptRecipe r image), kept-items-within (r .items) image)
 
 -- a Block takes a byte at least
 blocks-items : (is : List Item) → blockCount is ≤ length (printedItems is)
@@ -55,7 +30,7 @@ blocks-items (block a d ∷ is) =
 blocks-items (row a d ∷ is) = omega (arith, blocks-items is, length-append (printedItem (row a d)) (printedItems is))
 
 pub blocks-within : (r : Recipe) → blockCount (r .items) ≤ length (printed r)
-blocks-within r = omega (arith, blocks-items (r .items), printed-size r)
+blocks-within r = omega (arith, blocks-items (r .items), printed-length r)
 
 -- ---- what is read is printed in no more bytes
 
@@ -202,7 +177,7 @@ recipe-within (k ∷ xs) s = go (faultAt (k ∷ xs) 1 false) refl
         let size : 4 + length (printedItems (readFrom 2049 (k ∷ xs) 0 1 false .items)) ≤ length (k ∷ xs) =
         subst (λ (r : Reading). 4 + length (printedItems (r .items)) ≤ length (k ∷ xs)) (sym on)
         (first-kind xs k (faultless (k ∷ xs) 1 false e) (sym (ap (λ (r : Reading). r .stop) on) ∙ s)) in
-        omega (arith, printed-size (recipeOf (k ∷ xs)), size)
+        omega (arith, printed-length (recipeOf (k ∷ xs)), size)
     go (suc n) e =
         absurd (no-end (sym (ap (λ (r : Reading). r .stop) (read-fault 2048 (k ∷ xs) 0 1 false (omega arith) (λ z. omega arith))) ∙ s))
 

@@ -1,16 +1,14 @@
 -- What is kept, item by item: items behind others are looked at over what those leave, and a Block is dropped exactly if its cells stand.
 -- Assumes nothing.
 use mathlib.Core.Path.{_≡_, _∙_, refl, sym, ap}
-use mathlib.Core.Bool.{true, false, cond}
+use mathlib.Core.Bool.{true, cond}
 use mathlib.Core.List.{List, [], _∷_, _++_, append-assoc, append-nil}
 use Prim.Native.Nat.{ℕ, _+_}
 use native.Mathlib.Nat.{zero-add, add-assoc}
-use lib.ListN.{length}
 use Rattle.base.specs.Parts.{part}
-use Rattle.memory_same.proofs.Laws.{same-equal, equal-same, same-unequal}
+use Rattle.memory_same.proofs.Laws.{same-equal, equal-same}
 use Rattle.recipe.specs.Items.{Item, block, row}
 use Rattle.recipe.specs.Plain.{Memories, plainItem, plainItems}
-use Rattle.recipe.proofs.Plainly.{plain-item-sizes}
 use Rattle.differs_rules.specs.Keeping.{leftBy, leftByAll, stands, keptItems, erasesOf, blockCount}
 
 -- FLASH behind items that stand behind others
@@ -19,14 +17,7 @@ unfolding leftByAll
 left-append [] js flash = refl
 left-append (i ∷ is) js flash = left-append is js (leftBy i flash)
 
--- it keeps its length
-pub left-length : (is : List Item) (flash : List ℕ) → length (leftByAll is flash) ≡ length flash
-unfolding leftByAll
-left-length [] flash = refl
-left-length (i ∷ is) flash =
-    left-length is (leftBy i flash) ∙ plain-item-sizes i (record { flash = flash; eeprom = [] }) .0
-
--- and is what the plain reading leaves, whatever the EEPROM
+-- it is what the plain reading leaves, whatever the EEPROM
 pub left-plain : (is : List Item) (m : Memories) → leftByAll is (m .flash) ≡ plainItems is m .flash
 unfolding leftByAll plainItems
 left-plain [] m = refl
@@ -65,6 +56,3 @@ dropped-stands a d flash e = same-equal (part flash a 64) d e
 
 pub stands-dropped : (a : ℕ) (d flash : List ℕ) → part flash a 64 ≡ d → stands (block a d) flash ≡ true
 stands-dropped a d flash e = equal-same (part flash a 64) d e
-
-pub kept-not-standing : (a : ℕ) (d flash : List ℕ) → stands (block a d) flash ≡ false → part flash a 64 ≡ d → ⊥
-kept-not-standing a d flash e = same-unequal (part flash a 64) d e

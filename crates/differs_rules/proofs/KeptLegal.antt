@@ -2,6 +2,7 @@
 -- of the recipe's own, and a dropped one is a Block, which is one erase and 68 bytes.
 -- Assumes nothing.
 use mathlib.Core.Path.{_≡_, refl}
+use mathlib.Core.Bool.{Bool, true, false, cond}
 use mathlib.Core.List.{List, [], _∷_, _++_}
 use Prim.Native.Nat.{ℕ, _+_, _*_, _≤_}
 use native.Mathlib.Omega.{arith}
@@ -40,19 +41,8 @@ kept-legal r image h =
       each = kept-each (r .items) image (h .each);
     }
 
--- no more erases are kept than there are
-pub fewer-blocks : (is : List Item) (flash : List ℕ) → blockCount (keptItems is flash) ≤ blockCount is
-unfolding keptItems blockCount
-fewer-blocks [] flash = omega arith
-fewer-blocks (block a d ∷ is) flash =
-    let rest : List Item = keptItems is (leftBy (block a d) flash) in
-    let few : blockCount rest ≤ blockCount is = fewer-blocks is (leftBy (block a d) flash) in
-    by-cond (λ (x : List Item). blockCount (x ++ rest) ≤ 1 + blockCount is) (stands (block a d) flash) [] (block a d ∷ [])
-    (λ _. omega (arith, few)) (λ _. omega (arith, few))
-fewer-blocks (row a d ∷ is) flash = omega (arith, fewer-blocks is flash)
-
 -- the bytes of a recipe are four and those of its items
-printed-length : (r : Recipe) → length (printed r) ≡ 4 + length (printedItems (r .items))
+pub printed-length : (r : Recipe) → length (printed r) ≡ 4 + length (printedItems (r .items))
 unfolding printed
 printed-length r = omega (arith, length-append (printedItems (r .items)) (0x0F ∷ []))
 
@@ -90,7 +80,24 @@ kept-sizes r image h =
     omega
     (arith, items-sizes (r .items) image (h .each), printed-length r, printed-length (keptRecipe r image))
 
--- it is no longer than the recipe
-pub kept-shorter : (r : Recipe) (image : List ℕ) → Legal r → length (printed (keptRecipe r image)) ≤ length (printed r)
+-- ---- bytes, of any recipe
+
+-- an item that is kept or not takes no more bytes than the item
+one-within : (b : Bool) (i : Item) (is js : List Item) → length (printedItems js) ≤ length (printedItems is)
+    → length (printedItems (cond b [] (i ∷ []) ++ js)) ≤ length (printedItems (i ∷ is))
+unfolding printedItems
+one-within true i is js h = omega (arith, h, length-append (printedItem i) (printedItems is))
+one-within false i is js h =
+    omega (arith, h, length-append (printedItem i) (printedItems is), length-append (printedItem i) (printedItems js))
+
+kept-items-within : (is : List Item) (flash : List ℕ) → length (printedItems (keptItems is flash)) ≤ length (printedItems is)
+unfolding keptItems
+kept-items-within [] flash = omega arith
+kept-items-within (i ∷ is) flash =
+    one-within (stands i flash) i is (keptItems is (leftBy i flash)) (kept-items-within is (leftBy i flash))
+
+-- what is kept of a recipe takes no more bytes than the recipe
+pub kept-shorter : (r : Recipe) (image : List ℕ) → length (printed (keptRecipe r image)) ≤ length (printed r)
 unfolding keptRecipe
-kept-shorter r image h = omega (arith, kept-sizes r image h, fewer-blocks (r .items) image)
+kept-shorter r image =
+    omega (arith, printed-length r, printed-length (keptRecipe r image), kept-items-within (r .items) image)

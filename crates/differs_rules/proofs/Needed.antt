@@ -1,5 +1,5 @@
--- No Block is kept for nothing. What is dropped changes no cell, so the kept items leave FLASH as all items do, and looked at once more
--- they are all kept; if one of them stood there already, that second look would drop it and keep too few.
+-- No Block is kept for nothing. What is dropped changes no cell, so the kept items, looked at once more, are all kept; if one of them stood
+-- there already, that second look would drop it and keep too few.
 -- Assumes nothing.
 use mathlib.Core.Path.{_≡_, _∙_, refl, sym, ap, ap₂}
 use mathlib.Core.Bool.{true, false, cond}
@@ -16,19 +16,6 @@ use Rattle.differs_rules.proofs.Keeping.{stands-dropped}
 use Rattle.differs_rules.proofs.Turning.{by-turn}
 use Rattle.differs_rules.proofs.KeptLegal.{kept-few}
 use Rattle.differs_rules.proofs.KeptPlain.{standing-leaves, left-sized}
-
--- the kept items leave FLASH as all items leave it
-pub kept-leaves : (is : List Item) (flash : List ℕ) → LegalItems is → length flash ≡ flashCells
-    → leftByAll (keptItems is flash) flash ≡ leftByAll is flash
-unfolding keptItems leftByAll
-kept-leaves [] flash h l = refl
-kept-leaves (i ∷ is) flash h l =
-    let rest : List Item = keptItems is (leftBy i flash) in
-    let ih : leftByAll rest (leftBy i flash) ≡ leftByAll is (leftBy i flash)
-    = kept-leaves is (leftBy i flash) (h .1) (left-sized i flash l) in
-    by-cond (λ (x : List Item). leftByAll (x ++ rest) flash ≡ leftByAll is (leftBy i flash)) (stands i flash) [] (i ∷ [])
-    (λ (s : stands i flash ≡ true). ap (λ (f : List ℕ). leftByAll rest f) (sym (standing-leaves i flash (h .0) l s)) ∙ ih)
-    (λ _. ih)
 
 -- what is kept over an image is all kept when it is looked at once more
 pub kept-again : (is : List Item) (image : List ℕ) → LegalItems is → length image ≡ flashCells

@@ -31,6 +31,6 @@ items-pairs m g (i ∷ is) =
     let rest : List (List ℕ) = framesOf (record { moduleNumber = m; groupNumber = g; items = is }) in
     ap erasePairs (frames-first m g i is) ∙ item-pairs m g rest i ∙ ap (λ (n : ℕ). erasesOf i + n) (items-pairs m g is)
 
--- a node that gets a recipe's frames erases once for each Block of the recipe
+-- among a recipe's frames are as many erase pairs as it has Blocks
 pub erase-pairs : (r : Recipe) → erasePairs (framesOf r) ≡ blockCount (r .items)
 erase-pairs r = items-pairs (r .moduleNumber) (r .groupNumber) (r .items)

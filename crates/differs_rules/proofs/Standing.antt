@@ -11,8 +11,7 @@ use lib.ListN.{length}
 use Rattle.base.specs.Parts.{part, patch}
 use Rattle.base.proofs.Choice.{cond-true, cond-false, true-or-false}
 use Rattle.base.proofs.Patched.{part-patch}
-use Rattle.memory_same.specs.Same.{same}
-use Rattle.memory_same.proofs.Laws.{same-equal}
+use Rattle.memory_same.proofs.Laws.{unequal-same}
 use Rattle.memory_address.specs.Places.{flashCells}
 use Rattle.recipe.specs.Items.{Item, block, row, LegalItem, LegalItems}
 use Rattle.recipe.specs.Plain.{Memories, plainItems, plainly, Each}
@@ -39,12 +38,6 @@ kept-differing : (a : ℕ) (d : List ℕ) (is : List Item) (image : List ℕ) �
 unfolding keptItems
 kept-differing a d is image s =
     ap (λ (x : List Item). x ++ keptItems is (leftBy (block a d) image)) (cond-false (stands (block a d) image) [] (block a d ∷ []) s)
-
--- cells that are others
-other : (xs ys : List ℕ) → (xs ≡ ys → ⊥) → same xs ys ≡ false
-other xs ys n =
-    ⊎-elim (λ (t : same xs ys ≡ true). absurd (n (same-equal xs ys t))) (λ (f : same xs ys ≡ false). f)
-    (true-or-false (same xs ys))
 
 -- ---- items that all stand
 
@@ -99,9 +92,9 @@ module _ (a : ℕ) (x y image : List ℕ) (hx : LegalItem (block a x)) (hy : Leg
   unfolding keptItems
   there =
       let behind : List ℕ = leftBy (block a y) image in
-      kept-differing a y (block a x ∷ []) image (other (part image a 64) y (λ e. differ (sym here ∙ e)))
+      kept-differing a y (block a x ∷ []) image (unequal-same (part image a 64) y (λ e. differ (sym here ∙ e)))
       ∙ ap (λ (is : List Item). block a y ∷ is)
-      (kept-differing a x [] behind (other (part behind a 64) x (λ e. differ (sym e ∙ left-cells a y image hy l))))
+      (kept-differing a x [] behind (unequal-same (part behind a 64) x (λ e. differ (sym e ∙ left-cells a y image hy l))))
 
   -- and of x, y and then x the first alone is dropped
   pub there-and-back : keptItems (block a x ∷ block a y ∷ block a x ∷ []) image ≡ block a y ∷ block a x ∷ []

@@ -1,6 +1,6 @@
 -- `same` is equality of lists: both ways.
 -- Assumes nothing.
-use mathlib.Core.Path.{_≡_, refl, sym, ap₂, _∙_, subst}
+use mathlib.Core.Path.{_≡_, refl, ap, ap₂, subst}
 use mathlib.Core.Bool.{Bool, true, false, false≢true}
 use mathlib.Core.List.{List, [], _∷_}
 use Prim.Native.Nat.{ℕ}
@@ -25,12 +25,13 @@ same-self (x ∷ xs) = true-both (eqb x x) (same xs xs) (eq-eqb x x refl) (same-
 pub equal-same : (xs ys : List ℕ) → xs ≡ ys → same xs ys ≡ true
 equal-same xs ys e = subst (λ (zs : List ℕ). same xs zs ≡ true) e (same-self xs)
 
-pub same-unequal : (xs ys : List ℕ) → same xs ys ≡ false → xs ≡ ys → ⊥
-same-unequal xs ys f e = false≢true (sym f ∙ equal-same xs ys e)
-
-pub other-length : (xs ys : List ℕ) → (length xs ≡ length ys → ⊥) → same xs ys ≡ false
-other-length xs ys n = go (same xs ys) refl
+pub unequal-same : (xs ys : List ℕ) → (xs ≡ ys → ⊥) → same xs ys ≡ false
+unequal-same xs ys n = go (same xs ys) refl
   where
     go : (b : Bool) → same xs ys ≡ b → same xs ys ≡ false
     go false e = e
-    go true e = absurd (n (subst (λ (zs : List ℕ). length xs ≡ length zs) (same-equal xs ys e) refl))
+    go true e = absurd (n (same-equal xs ys e))
+
+-- lists of other lengths are not the same
+pub other-length : (xs ys : List ℕ) → (length xs ≡ length ys → ⊥) → same xs ys ≡ false
+other-length xs ys n = unequal-same xs ys (λ (e : xs ≡ ys). n (ap length e))
