@@ -1,4 +1,6 @@
 // What every crate may use: readers and a writer that never run past the end, and the laws of parts, patches, choices and stores.
+#![tactic(auto)]
+
 ghost use Rattle.std.specs.Prelude.{◌≡◌, get_or};
 ghost use Rattle.base.specs.Parts.{listed};
 ghost use Rattle.base.specs.Internal.Putting.{put_at};
@@ -53,7 +55,7 @@ pub fn put(output: &mut [u8], at: usize, new: &[u8])
     if new.len() <= output.len() {
         if at <= output.len() - new.len() {
             let end = at + new.len();
-            bytes::copy(new, &mut output[at..end]);
+            output[at..end].copy_from_slice(new);
         }
     }
 }
