@@ -23,12 +23,6 @@ unidentified : (n m : ℕ) (f : List ℕ) → n ≡ m → (n ≡ 0 → ⊥)
     → ◌≡◌ {A = Identified} (record { number = n; identifier = 0 }) (identified_of m f)
 unidentified n m f e z = rw (← e, ne_eqb n 0 z)
 
--- UNMAPPED copy-requires
--- copy-requires : tie.Need-copy-requires
--- copy-requires c κs =
---     let h = done c.before.before.before in
---     omega (arith, ap length c.before.before.eight.ensures)
-
 pub returns-then-to_can_number-eq0 : goal.returns-then-to_can_number-eq0
 returns-then-to_can_number-eq0 c =
     let d = c.eight-d in
@@ -36,9 +30,9 @@ returns-then-to_can_number-eq0 c =
     let h = (let here : (length c.args.«data».now ≡ 8)
     × (length c.args.frame.now ≡ 12)
     × (upper_flags c.args.frame.now ≡ false) = to_can_done _ _ (sym c.to_can_number-to_can_number.ensures.0 ∙ c.if-to_can_number-eq0.true) in here) in
-    let e = mix_all d.result _ _ refl (h.0 ∙ sym (ap length d.ensures)) in (
+    (
       identified _ _ _ f c.to_can_number-to_can_number.ensures.0 c.if-to_can_number-eq0.true c.identifier_of.ensures,
-      rw c.if-to_can_number-eq0.true (c.copy.ensures.1 ∙ e ∙ d.ensures ∙ listed_rest f 4 8 h.1),
+      rw c.if-to_can_number-eq0.true (c.copy_from_slice.ensures.after ∙ d.ensures ∙ listed_rest f 4 8 h.1),
       c.to_can_number-to_can_number.ensures.1,
     )
 
@@ -49,3 +43,8 @@ returns c =
       rw (ne_eqb _ 0 c.if-to_can_number-eq0.false),
       c.to_can_number-to_can_number.ensures.1,
     )
+
+pub copy_from_slice-requires : goal.copy_from_slice-requires
+copy_from_slice-requires c =
+    let h = (let here : (length c.args.«data».now ≡ 8) × (length c.args.frame.now ≡ 12) × (upper_flags c.args.frame.now ≡ false) = to_can_done _ _ (sym c.to_can_number-to_can_number.ensures.0 ∙ c.if-to_can_number-eq0.true) in here) in
+    omega (arith, ap length c.eight-d.ensures)

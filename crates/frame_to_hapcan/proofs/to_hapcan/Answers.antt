@@ -25,22 +25,6 @@ put_head-requires c = let h = (let here : (length c.args.frame.now ≡ 12)
     × (legal_identifier c.args.identifier ≡ true)
     × (length c.args.«data».now ≡ 8) = to_hapcan_done _ _ _ (sym c.to_hapcan_number-to_hapcan_number.ensures ∙ c.if-to_hapcan_number-eq0.true) in here) in omega (arith, leb-true)
 
--- UNMAPPED sub-copy
--- sub-copy : tie.Need-overflow-sub-copy
--- sub-copy c = let h = done c.before.before.before.before.before.before in omega arith
-
--- UNMAPPED part-copy-start
--- part-copy-start : tie.Need-slice-bounds-copy-start
--- part-copy-start c = let h = done c.before.before.before.before.before.before in omega arith
-
--- UNMAPPED copy-requires
--- copy-requires : tie.Need-copy-requires
--- copy-requires c κs =
---     let d = c.before.before.before.before.before.before.eight in
---     let h = done c.before.before.before.before.before.before.before in
---     let l = ap length d.ensures in
---     simp (length-take, length-drop) (omega arith)
-
 pub returns-then-to_hapcan_number-eq0 : goal.returns-then-to_hapcan_number-eq0
 returns-then-to_hapcan_number-eq0 c =
     let d = c.eight-d in
@@ -49,10 +33,22 @@ returns-then-to_hapcan_number-eq0 c =
     × (legal_identifier c.args.identifier ≡ true)
     × (length c.args.«data».now ≡ 8) = to_hapcan_done _ _ _ (sym c.to_hapcan_number-to_hapcan_number.ensures ∙ c.if-to_hapcan_number-eq0.true) in here) in
     let l = ap length d.ensures in
-    let q = c.copy.ensures.1 ∙ mix_all d.result _ _ refl (simp (length-take, length-drop) (omega arith)) in
+    let q = c.copy_from_slice.ensures.after in
     let r = q ∙ d.ensures ∙ listed_all a.«data».now 8 h.2 in
     let e = laid a.identifier a.frame.now a.«data».now _ _ c.put_head.ensures r in
     (c.to_hapcan_number-to_hapcan_number.ensures, rw c.if-to_hapcan_number-eq0.true e)
 
 pub returns-else-to_hapcan_number-eq0 : goal.returns-else-to_hapcan_number-eq0
 returns-else-to_hapcan_number-eq0 c = (c.to_hapcan_number-to_hapcan_number.ensures, rw (ne_eqb _ 0 c.if-to_hapcan_number-eq0.false))
+
+pub slice_bounds-copy_from_slice-count : goal.slice_bounds-copy_from_slice-count
+slice_bounds-copy_from_slice-count c = let h = (let here : (length c.args.frame.now ≡ 12) × (legal_identifier c.args.identifier ≡ true) × (length c.args.«data».now ≡ 8) = to_hapcan_done _ _ _ (sym c.to_hapcan_number-to_hapcan_number.ensures ∙ c.if-to_hapcan_number-eq0.true) in here) in omega arith
+
+pub slice_bounds-copy_from_slice-start : goal.slice_bounds-copy_from_slice-start
+slice_bounds-copy_from_slice-start c = let h = (let here : (length c.args.frame.now ≡ 12) × (legal_identifier c.args.identifier ≡ true) × (length c.args.«data».now ≡ 8) = to_hapcan_done _ _ _ (sym c.to_hapcan_number-to_hapcan_number.ensures ∙ c.if-to_hapcan_number-eq0.true) in here) in omega arith
+
+pub copy_from_slice-requires : goal.copy_from_slice-requires
+copy_from_slice-requires c =
+    let h = (let here : (length c.args.frame.now ≡ 12) × (legal_identifier c.args.identifier ≡ true) × (length c.args.«data».now ≡ 8) = to_hapcan_done _ _ _ (sym c.to_hapcan_number-to_hapcan_number.ensures ∙ c.if-to_hapcan_number-eq0.true) in here) in
+    let l = ap length c.eight-d.ensures in
+    simp (length-take, length-drop) (omega arith)

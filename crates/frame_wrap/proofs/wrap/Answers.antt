@@ -48,17 +48,13 @@ pub bounds-wrapped-14 : goal.bounds-wrapped-14
 bounds-wrapped-14 c = let h = (let here : (length c.args.wrapped.now ≡ 15)
     × (length c.args.frame.now ≡ 12) = wrap_done _ _ (sym c.wrap_number-wrap_number.ensures ∙ c.if-wrap_number-eq0.true) in here) in simp length-set (omega arith)
 
--- UNMAPPED part-copy-end
--- part-copy-end : tie.Need-slice-bounds-copy-end
--- part-copy-end c = let h = done c.before.before.before in simp length-set (omega arith)
-
 pub shape_of-wrapped : goal.shape_of-wrapped
 shape_of-wrapped c =
     let h = (let here : (length c.args.wrapped.now ≡ 15)
     × (length c.args.frame.now ≡ 12) = wrap_done _ _ (sym c.wrap_number-wrap_number.ensures ∙ c.if-wrap_number-eq0.true) in here) in
     let i = c.twelve-inner in
     let l = ap length i.ensures in
-    let q = c.copy.ensures.1 ∙ mix_all i.result _ _ refl (simp (length-take, length-drop, length-set) (omega arith)) in
+    let q = c.copy_from_slice.ensures.after in
     let m = ap length q ∙ l in
     simp (length-append, length-take, length-drop, length-set) (omega arith)
 
@@ -71,10 +67,13 @@ returns-then-wrap_number-eq0 c =
     let h = (let here : (length c.args.wrapped.now ≡ 15)
     × (length c.args.frame.now ≡ 12) = wrap_done _ _ (sym c.wrap_number-wrap_number.ensures ∙ c.if-wrap_number-eq0.true) in here) in
     let l = ap length i.ensures in
-    let q = c.copy.ensures.1 ∙ mix_all i.result _ _ refl (simp (length-take, length-drop, length-set) (omega arith)) in
+    let q = c.copy_from_slice.ensures.after in
     let f = q ∙ i.ensures ∙ listed_all a.frame.now 12 h.1 in
-    let e = laid a.wrapped.now a.frame.now c.copy.new.1.0 0xAA sum.result 0xA5 h.0 f in
+    let e = laid a.wrapped.now a.frame.now c.copy_from_slice.new.self 0xAA sum.result 0xA5 h.0 f in
     (c.wrap_number-wrap_number.ensures, rw c.if-wrap_number-eq0.true (e ∙ rw sum.ensures))
 
 pub returns-else-wrap_number-eq0 : goal.returns-else-wrap_number-eq0
 returns-else-wrap_number-eq0 c = (c.wrap_number-wrap_number.ensures, rw (ne_eqb _ 0 c.if-wrap_number-eq0.false))
+
+pub slice_bounds-copy_from_slice-end : goal.slice_bounds-copy_from_slice-end
+slice_bounds-copy_from_slice-end c = let h = (let here : (length c.args.wrapped.now ≡ 15) × (length c.args.frame.now ≡ 12) = wrap_done _ _ (sym c.wrap_number-wrap_number.ensures ∙ c.if-wrap_number-eq0.true) in here) in simp length-set (omega arith)

@@ -22,7 +22,7 @@ returns-then-flash-ne-FLASH_CELLS c = (simp (ne_eqb _ 65536 c.if-flash-ne-FLASH_
 
 pub slice_bounds-erase_cells-end : goal.slice_bounds-erase_cells-end
 slice_bounds-erase_cells-end c =
-        omega (
+    omega (
       arith,
       flash_within c.args.at.0 0x03 (rw c.legal_flash.ensures at
           c.if-legal_flash.true),
@@ -31,7 +31,7 @@ slice_bounds-erase_cells-end c =
 pub returns-then-legal_flash : goal.returns-then-legal_flash
 unfolding flash_erased
 returns-then-legal_flash c =
-        let args = c.args in
+    let args = c.args in
     let m = args.flash.now in
     let a = args.at.0 in
     let legal : legal_flash a 0x03 ≡ true = rw c.legal_flash.ensures at c.if-legal_flash.true in

@@ -23,7 +23,7 @@ returns-then-eeprom-ne-EEPROM_CELLS c = (simp (ne_eqb _ 1024 c.if-eeprom-ne-EEPR
 
 pub overflow_sub-a : goal.overflow_sub-a
 overflow_sub-a c =
-        omega (
+    omega (
       arith,
       eeprom_within c.args.place.0 0x02 (rw c.legal_eeprom.ensures at
           c.if-legal_eeprom.true),
@@ -31,7 +31,7 @@ overflow_sub-a c =
 
 pub slice_bounds-write_eeprom_cells-end : goal.slice_bounds-write_eeprom_cells-end
 slice_bounds-write_eeprom_cells-end c =
-        omega (
+    omega (
       arith,
       eeprom_within c.args.place.0 0x02 (rw c.legal_eeprom.ensures at
           c.if-legal_eeprom.true),
@@ -40,7 +40,7 @@ slice_bounds-write_eeprom_cells-end c =
 pub returns-then-legal_eeprom : goal.returns-then-legal_eeprom
 unfolding eeprom_written
 returns-then-legal_eeprom c =
-        let args = c.args in
+    let args = c.args in
     let m = args.eeprom.now in
     let p = args.place.0 in
     let a = eeprom_cell p in
@@ -50,8 +50,8 @@ returns-then-legal_eeprom c =
     let l = part_length m a 8 (omega arith) in (
       simp (eq-eqb (length m) 1024 full, legal),
       simp (eq-eqb (length m) 1024 full, legal)
-          (put_back m a 8 _ (eeprom_cells_after (part m a 8) args.t3)
-          (c.write_eeprom_cells.ensures ∙ simp add-sub_cancel_left) (length_eeprom_after (part m a 8) args.t3 ∙ l)),
+          (put_back m a 8 _ (eeprom_cells_after (part m a 8) args.new)
+          (c.write_eeprom_cells.ensures ∙ simp add-sub_cancel_left) (length_eeprom_after (part m a 8) args.new ∙ l)),
     )
 
 pub returns : goal.returns

@@ -22,7 +22,7 @@ returns-then-flash-ne-FLASH_CELLS c = (simp (ne_eqb _ 65536 c.if-flash-ne-FLASH_
 
 pub slice_bounds-write_flash_cells-end : goal.slice_bounds-write_flash_cells-end
 slice_bounds-write_flash_cells-end c =
-        omega (
+    omega (
       arith,
       flash_within c.args.at.0 0x02 (rw c.legal_flash.ensures at
           c.if-legal_flash.true),
@@ -31,7 +31,7 @@ slice_bounds-write_flash_cells-end c =
 pub returns-then-legal_flash : goal.returns-then-legal_flash
 unfolding flash_written
 returns-then-legal_flash c =
-        let args = c.args in
+    let args = c.args in
     let m = args.flash.now in
     let a = args.at.0 in
     let legal : legal_flash a 0x02 ≡ true = rw c.legal_flash.ensures at c.if-legal_flash.true in
@@ -40,8 +40,8 @@ returns-then-legal_flash c =
     let l = part_length m a 8 (omega arith) in (
       simp (eq-eqb (length m) 65536 full, legal),
       simp (eq-eqb (length m) 65536 full, legal)
-          (put_back m a 8 _ (flash_cells_after (part m a 8) args.t3)
-          (c.write_flash_cells.ensures ∙ simp add-sub_cancel_left) (length_flash_after (part m a 8) args.t3 ∙ l)),
+          (put_back m a 8 _ (flash_cells_after (part m a 8) args.new)
+          (c.write_flash_cells.ensures ∙ simp add-sub_cancel_left) (length_flash_after (part m a 8) args.new ∙ l)),
     )
 
 pub returns : goal.returns
