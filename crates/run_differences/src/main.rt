@@ -93,9 +93,9 @@ fn ended(mut p: Place) -> Place {
 
 // Reads a header, and handles its recipe.
 fn turn<R: Read, W: Write>(
-    p: Place,
     input: &mut R,
     printer: &mut W,
+    p: Place,
     space: &mut [u8],
     cells: &mut [u8],
     output: &mut [u8],
@@ -131,7 +131,7 @@ fn stream<R: Read, W: Write>(
         if p.done {
             return Ok(());
         }
-        p = turn(p, input, printer, space, cells, output)?;
+        p = turn(input, printer, p, space, cells, output)?;
     }
     Ok(())
 }

@@ -82,9 +82,9 @@ fn ended(mut p: Place) -> Place {
 
 // Reads a header, and handles its text.
 fn turn<R: Read, W: Write>(
-    p: Place,
     input: &mut R,
     printer: &mut W,
+    p: Place,
     space: &mut [u8],
     output: &mut [u8],
 ) -> io::Result<Place> {
@@ -117,7 +117,7 @@ fn stream<R: Read, W: Write>(
         if p.done {
             return Ok(());
         }
-        p = turn(p, input, printer, space, output)?;
+        p = turn(input, printer, p, space, output)?;
     }
     Ok(())
 }

@@ -72,9 +72,9 @@ fn ended(mut p: Place) -> Place {
 
 // Reads a header, and handles its recipe; or a record that says which way is meant.
 fn turn<R: Read, W: Write>(
-    p: Place,
     input: &mut R,
     printer: &mut W,
+    p: Place,
     space: &mut [u8],
     output: &mut [u8],
     serial: &mut [u8],
@@ -123,7 +123,7 @@ fn stream<R: Read, W: Write>(
         if p.done {
             return Ok(());
         }
-        p = turn(p, input, printer, space, output, serial, flash, eeprom)?;
+        p = turn(input, printer, p, space, output, serial, flash, eeprom)?;
     }
     Ok(())
 }

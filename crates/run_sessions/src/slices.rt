@@ -56,10 +56,8 @@ fn next(value: u8, i: usize, step: u8, more: u8) -> u8 {
 // The bytes of the one go into the other from `at` on, as far as there is room; answers the place behind them.
 pub fn append(to: &mut [u8], at: usize, from: &[u8]) -> usize {
     let mut end = at;
-    let mut i: usize = 0;
-    while i < from.len() {
-        end = push(to, end, from[i]);
-        i += 1;
+    for b in from {
+        end = push(to, end, *b);
     }
     end
 }
