@@ -15,9 +15,9 @@ take-put_mid_part a k n xs ys within fits =
     let behind = drop_at (take a xs) (ys ++ after) a (length-take-le a xs within) in
     sym
     (take-add a n (put_mid a k xs ys)
-        ∙ ap (λ l. l ++ take n (drop a (put_mid a k xs ys))) (take-put_mid_below a k xs ys a (le_refl a) within)
-        ∙ ap (λ l. take a xs ++ take n l) behind
-        ∙ ap (λ l. take a xs ++ l) (take-append-le n ys after fits))
+    ∙ ap (λ l. l ++ take n (drop a (put_mid a k xs ys))) (take-put_mid_below a k xs ys a (le_refl a) within)
+    ∙ ap (λ l. take a xs ++ take n l) behind
+    ∙ ap (λ l. take a xs ++ l) (take-append-le n ys after fits))
 
 pub loop-done-init : goal.loop-done-init
 loop-done-init g c = (omega arith, Consumes-nil _)
