@@ -3,7 +3,7 @@
 use libc::{STDERR_FILENO, STDIN_FILENO};
 
 // What reading comes to: how many bytes stand at the start of the lent ones, or nothing where they can't be read.
-#[derive(Drop)]
+#[derive(Clone, Copy)]
 pub enum Input {
     Bytes(usize),
     Unread,

@@ -1,6 +1,8 @@
 // Applies a recipe file to a blank node and prints a line for each frame: the number, then the reply (document 01, "What we cook"). The
 // file is the one that the argument names, or standard input where that is `-`. Reading is in input, printing in output; what is done is
 // proved in the crates below.
+#![tactic(auto)]
+
 mod input;
 mod output;
 

@@ -1,6 +1,8 @@
 // Makes a recipe shorter by an image of the node's FLASH (document 02, A6): differences RECIPE IMAGE [OUT]. Arguments and reading are in
 // input, writing in output; what is done is proved in the crates below. The program can't answer a status: the first line on standard
 // error is `N erases` exactly where a recipe was made and all of it written.
+#![tactic(auto)]
+
 mod input;
 mod output;
 

@@ -1,6 +1,8 @@
 // Converts a file of Intel HEX records into a recipe (document 02, A5): hex FILE MODULE GROUP [RECIPE]. Arguments and reading are in input,
 // writing in output; what is done is proved in the crates below. The program can't answer a status: it says something on standard error
 // exactly where no recipe was made, or not all of it written.
+#![tactic(auto)]
+
 mod input;
 mod number;
 mod output;
