@@ -1,8 +1,7 @@
 -- `recipe_translate::check` meets its contract. The loop keeps that the reading from the start is what was read so far and then the
 -- reading from the cursor on, and that the input holds bytes once Leave has come; what is left of the input falls.
 -- Assumes nothing.
-use mathlib.Core.Bool.{true, false≢true}
-use Prim.Native.Nat.{◌-◌}
+use mathlib.Core.Bool.{false≢true}
 use Rattle.recipe_translate.proofs.Walking.{kept_start, kept_done, kept_open, kept_fault, kept_next, at_cursor, nearer}
 use Rattle.recipe_translate.proofs.check.Goals as goal
 

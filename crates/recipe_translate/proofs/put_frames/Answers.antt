@@ -1,7 +1,6 @@
 -- `recipe_translate::put_frames` meets its contract. The loop keeps that the frames of what was read so far are put, beside what the
 -- check's keeps.
 -- Assumes nothing.
-use Prim.Native.Nat.{◌-◌}
 use native.Mathlib.Omega.{arith}
 use Rattle.recipe_translate.proofs.Walking.{nearer}
 use Rattle.recipe_translate.proofs.Emission.{emitted_start, emitted_long, emitted_at, emitted_end, emitted_next}

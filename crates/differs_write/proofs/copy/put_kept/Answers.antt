@@ -1,6 +1,5 @@
 -- `differs_write::copy::put_kept` meets its contract: before each turn, what stands before the last place is put.
 -- Assumes nothing.
-use Prim.Native.Nat.{◌-◌}
 use Rattle.differs_write.proofs.Putting.{copied_start, from_inside, place_inside, part_fits, copied_next, copied_end, copied_end_long}
 use native.Mathlib.Omega.{arith}
 use Rattle.differs_write.proofs.copy.put_kept.Goals as goal

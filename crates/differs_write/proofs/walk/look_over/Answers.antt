@@ -1,7 +1,6 @@
 -- `differs_write::walk::look_over` meets its contract. Before each turn the walk is one that the items so far lead to (`Seen`); what is left
 -- of the recipe falls.
 -- Assumes nothing.
-use Prim.Native.Nat.{◌-◌}
 use Rattle.base.proofs.Bytes.{bytes_by}
 use Rattle.recipe_fault.proofs.Walking.{at_item}
 use Rattle.differs_write.proofs.Seeing.{seen_start, seen_open, seen_fault, seen_done, seen_small, seen_table, seen_room, seen_block, dropped_room, seen_next, seen_nearer}
