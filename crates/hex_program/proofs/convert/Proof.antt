@@ -3,9 +3,9 @@
 use native.Mathlib.Omega.{arith}
 use lib.ListN.{length-take}
 use borrow.Author.Rules.{rules}
-use Rattle.hex.proofs.HasRoom.{answer_refused, answer_fits}
-use Rattle.hex.proofs.convert.Statement.{statement}
-use Rattle.hex.proofs.convert.Tie as tie
+use Rattle.hex_program.proofs.HasRoom.{answer_refused, answer_fits}
+use Rattle.hex_program.proofs.convert.Statement.{statement}
+use Rattle.hex_program.proofs.convert.Tie as tie
 
 slice-aggregate-convert : tie.Need-slice-aggregate-convert
 slice-aggregate-convert c = search rules

@@ -2,8 +2,8 @@
 use lib.ListN.{length-take}
 use native.Mathlib.Omega.{arith}
 use borrow.Author.Rules.{rules}
-use Rattle.hex.proofs.convert_first.Statement.{statement}
-use Rattle.hex.proofs.convert_first.Tie as tie
+use Rattle.hex_program.proofs.convert_first.Statement.{statement}
+use Rattle.hex_program.proofs.convert_first.Tie as tie
 
 refuse-long-requires : tie.Need-refuse-long-requires
 refuse-long-requires c κs = search rules

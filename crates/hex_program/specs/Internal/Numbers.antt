@@ -1,8 +1,8 @@
 -- A number as an argument writes it: decimal, or hexadecimal behind `0x`.
 use Rattle.std.specs.Prelude.{ℕ, ◌+◌, ◌*◌, ◌&&◌, ◌||◌, cond, List, [], ◌∷◌, eqb, ltb, length, get_or, drop}
 use Rattle.hex_rules.specs.Record.{digit_of}
-use Rattle.hex.specs.declared.number.Numeral.{Numeral}
-use Rattle.hex.specs.declared.number.Numeral.TheVariants.{Byte, Wrong}
+use Rattle.hex_program.specs.declared.number.Numeral.{Numeral}
+use Rattle.hex_program.specs.declared.number.Numeral.TheVariants.{Byte, Wrong}
 
 -- the digits of a base behind a value; 256, which is no byte, where one is none of that base
 unfoldable pub digits_read : ℕ → ℕ → List ℕ → ℕ

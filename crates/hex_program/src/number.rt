@@ -1,7 +1,7 @@
 // A number as an argument writes it: decimal, or hexadecimal behind `0x`.
 ghost use Rattle.std.specs.Prelude.{◌≡◌, ◌≤◌};
 ghost use Rattle.hex_rules.specs.Record.{digit_of};
-ghost use Rattle.hex.specs.Internal.Numbers.{value_of, number_of};
+ghost use Rattle.hex_program.specs.Internal.Numbers.{value_of, number_of};
 
 // What a word comes to: a number from 0 to 255, or none.
 #[derive(Drop)]

@@ -13,9 +13,9 @@ use lib.Seq.{drop-cons}
 use borrow.Author.Tests.{le-leb, lt-leb, lt-ltb, le-ltb, eq-eqb, ne_eqb}
 use Rattle.base.proofs.Choice.{by_cond, cond_false}
 use Rattle.hex_rules.specs.Record.{digit_of}
-use Rattle.hex.specs.Internal.Numbers.{digits_read, value_of, number_of}
-use Rattle.hex.specs.declared.number.Numeral.{Numeral}
-use Rattle.hex.specs.declared.number.Numeral.TheVariants.{Byte, Wrong}
+use Rattle.hex_program.specs.Internal.Numbers.{digits_read, value_of, number_of}
+use Rattle.hex_program.specs.declared.number.Numeral.{Numeral}
+use Rattle.hex_program.specs.declared.number.Numeral.TheVariants.{Byte, Wrong}
 
 -- each range of characters, and what is between them
 module _ (c : ℕ) where

@@ -1,9 +1,9 @@
 -- `hex::number::digit` meets its contract, test by test. Assumes nothing.
 use native.Mathlib.Omega.{arith}
 use borrow.Author.Rules.{rules}
-use Rattle.hex.proofs.Numbers.{below_digits, in_digits, below_capitals, in_capitals, below_letters, in_letters, above_letters}
-use Rattle.hex.proofs.number.digit.Statement.{statement}
-use Rattle.hex.proofs.number.digit.Tie as tie
+use Rattle.hex_program.proofs.Numbers.{below_digits, in_digits, below_capitals, in_capitals, below_letters, in_letters, above_letters}
+use Rattle.hex_program.proofs.number.digit.Statement.{statement}
+use Rattle.hex_program.proofs.number.digit.Tie as tie
 
 returns : tie.Need-returns
 returns c = below_digits _ (omega arith)

@@ -5,10 +5,10 @@ use Prim.Native.Nat.{◌-◌}
 use lib.ListN.{length, drop, length-drop}
 use lib.Seq.{take_all}
 use borrow.Author.Rules.{rules}
-use Rattle.hex.specs.Internal.Numbers.{value_of}
-use Rattle.hex.proofs.Numbers.{short_word, other_first_lem, other_second, hexadecimal}
-use Rattle.hex.proofs.number.number.Statement.{statement}
-use Rattle.hex.proofs.number.number.Tie as tie
+use Rattle.hex_program.specs.Internal.Numbers.{value_of}
+use Rattle.hex_program.proofs.Numbers.{short_word, other_first_lem, other_second, hexadecimal}
+use Rattle.hex_program.proofs.number.number.Statement.{statement}
+use Rattle.hex_program.proofs.number.number.Tie as tie
 
 value-requires : tie.Need-value-requires
 value-requires c κs = search rules

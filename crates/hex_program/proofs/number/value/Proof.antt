@@ -5,10 +5,10 @@ use mathlib.Core.Path.{◌≡◌}
 use native.Mathlib.Omega.{arith}
 use lib.ListN.{length, drop}
 use borrow.Author.Rules.{rules}
-use Rattle.hex.specs.Internal.Numbers.{digits_read}
-use Rattle.hex.proofs.Numbers.{no_digits, small_product, one_more_lem, too_large, wrong_digit, all_read}
-use Rattle.hex.proofs.number.value.Statement.{statement}
-use Rattle.hex.proofs.number.value.Tie as tie
+use Rattle.hex_program.specs.Internal.Numbers.{digits_read}
+use Rattle.hex_program.proofs.Numbers.{no_digits, small_product, one_more_lem, too_large, wrong_digit, all_read}
+use Rattle.hex_program.proofs.number.value.Statement.{statement}
+use Rattle.hex_program.proofs.number.value.Tie as tie
 
 abbrev invariant-loop : tie.invariant-loop
 invariant-loop word base value₀ i₀ value i = (value ≤ 255) × (i ≤ length word) × (digits_read base 0 word ≡ digits_read base value (drop i word))
