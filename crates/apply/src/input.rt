@@ -6,7 +6,7 @@ use std::io;
 use std::io::Read;
 
 // What reading comes to: how many bytes stand at the start of the lent ones, or nothing where they can't be read.
-#[derive(Drop)]
+#[derive(Clone, Copy)]
 pub enum Input {
     Bytes(usize),
     Unread,

@@ -1,5 +1,7 @@
 // A recipe without the Blocks that already stand in an image of FLASH, in a lent output. One walk looks at every item: for a fault, and,
 // of a Block, whether its cells stand already; a second one copies what is kept, since a refusal leaves the output as it was.
+#![tactic(auto)]
+
 mod block;
 mod copy;
 mod walk;

@@ -6,7 +6,7 @@ ghost use Rattle.differs_write.specs.Internal.Steps.{keeps_at, last_after, erase
 
 // Where a walk stands: the place, the number of the item there, whether Leave has come; and of the items before it how many are dropped,
 // and how many erases those are that are kept.
-#[derive(Drop)]
+#[derive(Clone, Copy)]
 pub struct Walk {
     pub place: usize,
     pub number: usize,
@@ -16,7 +16,7 @@ pub struct Walk {
 }
 
 // What a walk comes to: how many items are dropped, and how many erases the others are; or a fault.
-#[derive(Drop)]
+#[derive(Clone, Copy)]
 pub enum Walked {
     Kept { dropped: usize, erases: usize },
     Refused { number: u8, place: usize },

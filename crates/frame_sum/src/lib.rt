@@ -1,4 +1,6 @@
 // The sum that a wrapping carries.
+#![tactic(auto)]
+
 ghost use Rattle.std.specs.Prelude.{◌≡◌, ◌%◌};
 ghost use Rattle.base.specs.Parts.{sum_of};
 

@@ -1,6 +1,8 @@
 // HAPCAN to CAN. The answer has document 01's number: 0, or a refusal that leaves the lent output as it was. An output of another length
 // than the result is refused first, with 4. Data are read whole before they are written: two lent slices might overlap for all the
 // compiler knows.
+#![tactic(auto)]
+
 ghost use Rattle.std.specs.Prelude.{◌≡◌, length};
 ghost use Rattle.base.specs.Parts.{Bytes};
 ghost use Rattle.frame_rules.specs.Frame.{data_of, identifier_of};
@@ -44,7 +46,7 @@ pub fn to_can(frame: &[u8], data: &mut [u8]) -> Identified
     let to_can_number = to_can_number(frame, data.len());
     if to_can_number == 0 {
         let d = base::eight(frame, 4);
-        bytes::copy(&d, data);
+        data.copy_from_slice(&d);
         return Identified {
             number: to_can_number,
             identifier: identifier_of(frame),

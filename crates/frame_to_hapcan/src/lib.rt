@@ -1,6 +1,8 @@
 // CAN to HAPCAN. The answer is document 01's number: 0, or a refusal that leaves the lent output as it was. An output of another length
 // than the result is refused first, with 4. Data are read whole before they are written: two lent slices might overlap for all the
 // compiler knows.
+#![tactic(auto)]
+
 ghost use Rattle.std.specs.Prelude.{◌≡◌, ◌++◌, ◌≤◌, length, drop};
 ghost use Rattle.frame_rules.specs.Frame.{head_of, hapcan_of};
 ghost use Rattle.frame_rules.specs.Numbers.{to_hapcan_number, output_after};
@@ -41,7 +43,7 @@ pub fn to_hapcan(identifier: u32, data: &[u8], frame: &mut [u8]) -> u8
     if to_hapcan_number == 0 {
         let d = base::eight(data, 0);
         put_head(identifier, frame);
-        bytes::copy(&d, &mut frame[4..]);
+        frame[4..].copy_from_slice(&d);
     }
     to_hapcan_number
 }

@@ -1,6 +1,8 @@
 // Unwrapping what came on UART. The answer is document 01's number: 0, or a refusal that leaves the lent output as it was. An output of
 // another length than the result is refused first, with 4. The twelve bytes are read whole before they are written: two lent slices might
 // overlap for all the compiler knows.
+#![tactic(auto)]
+
 mod content;
 
 ghost use Rattle.std.specs.Prelude.{◌≡◌, length};
@@ -31,8 +33,8 @@ pub fn unwrap(wrapped: &[u8], frame: &mut [u8]) -> u8
     let unwrap_number = unwrap_number(wrapped, frame.len());
     if unwrap_number == 0 {
         let mut inner = [0u8; 12];
-        bytes::copy(&wrapped[1..13], &mut inner);
-        bytes::copy(&inner, frame);
+        inner.copy_from_slice(&wrapped[1..13]);
+        frame.copy_from_slice(&inner);
     }
     unwrap_number
 }

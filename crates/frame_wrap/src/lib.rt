@@ -1,6 +1,8 @@
 // Wrapping for UART. The answer is document 01's number: 0, or a refusal that leaves the lent output as it was. An output of
 // another length than the result is refused first, with 4. The twelve bytes are read whole before they are written: two lent slices might
 // overlap for all the compiler knows.
+#![tactic(auto)]
+
 ghost use Rattle.std.specs.Prelude.{◌≡◌, ◌≤◌, length};
 ghost use Rattle.base.specs.Parts.{listed};
 ghost use Rattle.frame_rules.specs.Wrapping.{wrapped_of};
@@ -42,7 +44,7 @@ pub fn wrap(frame: &[u8], wrapped: &mut [u8]) -> u8
         wrapped[0] = 0xAA;
         wrapped[13] = sum;
         wrapped[14] = 0xA5;
-        bytes::copy(&inner, &mut wrapped[1..13]);
+        wrapped[1..13].copy_from_slice(&inner);
     }
     wrap_number
 }

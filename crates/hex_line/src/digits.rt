@@ -17,7 +17,7 @@ pub const DIGITS: [u8; 256] =
     \x10\x10\x10\x10\x10\x10\x10\x10\x10\x10\x10\x10\x10\x10\x10\x10\x10\x10\x10\x10\x10\x10\x10\x10\x10";
 
 // Whether all were digits, and the bytes of their pairs, filled up with 0.
-#[derive(Drop)]
+#[derive(Clone, Copy)]
 pub struct Pairs {
     pub good: bool,
     pub bytes: [u8; 260],

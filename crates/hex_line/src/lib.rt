@@ -1,4 +1,6 @@
 // A line of an Intel HEX text, read as a record.
+#![tactic(auto)]
+
 mod digits;
 mod ends;
 
@@ -7,7 +9,7 @@ ghost use Rattle.hex_rules.specs.Record.{bad_count};
 ghost use Rattle.hex_line.specs.Internal.Lines.{bad_line, line_at};
 
 // A line as read: whether it is a record in form, the place behind its ending, and its bytes, filled up with 0.
-#[derive(Drop)]
+#[derive(Clone, Copy)]
 pub struct Line {
     pub good: bool,
     pub next: usize,

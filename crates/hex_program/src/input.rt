@@ -9,14 +9,14 @@ use std::io;
 use std::io::Read;
 
 // What the arguments ask for: a recipe for these numbers, or nothing that can be done.
-#[derive(Drop)]
+#[derive(Clone, Copy)]
 pub enum Asked {
     Recipe { module: Module, group: Group },
     Nothing,
 }
 
 // What reading comes to: how many bytes stand at the start of the lent ones, or nothing where they can't be read.
-#[derive(Drop)]
+#[derive(Clone, Copy)]
 pub enum Input {
     Bytes(usize),
     Unread,

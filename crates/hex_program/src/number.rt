@@ -4,7 +4,7 @@ ghost use Rattle.hex_rules.specs.Record.{digit_of};
 ghost use Rattle.hex_program.specs.Internal.Numbers.{value_of, number_of};
 
 // What a word comes to: a number from 0 to 255, or none.
-#[derive(Drop)]
+#[derive(Clone, Copy)]
 pub enum Numeral {
     Byte(u8),
     Wrong,

@@ -1,4 +1,6 @@
 // The recipe of the places that are marked, put into a lent output.
+#![tactic(auto)]
+
 mod item;
 
 ghost use Rattle.std.specs.Prelude.{◌≡◌, ◌+◌, ◌*◌, ◌≤◌, ◌<◌, length};

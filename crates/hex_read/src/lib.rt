@@ -1,4 +1,6 @@
 // Intel HEX in: a text of records becomes a recipe in a lent output.
+#![tactic(auto)]
+
 mod cells;
 mod judge;
 
@@ -10,7 +12,7 @@ use hex_rules::Converted;
 use memory_address::{Group, Module};
 
 // What reading a text comes to: its cells are in the table, or the refusal's number and line.
-#[derive(Drop)]
+#[derive(Clone, Copy)]
 enum Outcome {
     Taken,
     Refused { number: u8, line: usize },

@@ -1,32 +1,34 @@
 // Addresses: two kinds of number that can't be mixed, the places of document 01, and the one rule that says which are legal.
+#![tactic(auto)]
+
 ghost use Rattle.std.specs.Prelude.{◌≡◌, ◌<◌};
 ghost use Rattle.memory_address.specs.Rule.{multiple_in, row_of, block_of, ruled, legal_flash, legal_eeprom};
 
 // An address of FLASH, 0x000000 to 0x00FFFF.
-#[derive(Drop)]
+#[derive(Clone, Copy)]
 pub struct FlashAddress(pub u32);
 
 // A place of EEPROM, 0xF00000 to 0xF003FF.
-#[derive(Drop)]
+#[derive(Clone, Copy)]
 pub struct EepromPlace(pub u32);
 
 // A module number.
-#[derive(Drop)]
+#[derive(Clone, Copy)]
 pub struct Module(pub u8);
 
 // A group number.
-#[derive(Drop)]
+#[derive(Clone, Copy)]
 pub struct Group(pub u8);
 
 // The cells that an address selects.
-#[derive(Drop)]
+#[derive(Clone, Copy)]
 pub enum Address {
     Flash(FlashAddress),
     Eeprom(EepromPlace),
 }
 
 // What the address rule says of a command at a number.
-#[derive(Drop)]
+#[derive(Clone, Copy)]
 pub enum Ruled {
     Legal(Address),
     Illegal,

@@ -1,5 +1,7 @@
 // What changes cells: the leaves, which touch only the cells lent to them, and the functions over a whole memory and an address,
 // which lend them the row or the block in its middle.
+#![tactic(auto)]
+
 ghost use Rattle.std.specs.Prelude.{◌≡◌};
 ghost use Rattle.memory_cells.specs.Memory.{flash_number, eeprom_number, flash_written, flash_erased, eeprom_written};
 

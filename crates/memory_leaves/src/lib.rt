@@ -1,4 +1,6 @@
 // The leaves. Each touches only the cells lent to it, and only where their number, and that of the new bytes, is right.
+#![tactic(auto)]
+
 ghost use Rattle.std.specs.Prelude.{◌≡◌};
 ghost use Rattle.memory_leaves.specs.Leaves.{flash_cells_after, eeprom_cells_after, erased_cells};
 

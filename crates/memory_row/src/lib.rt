@@ -1,4 +1,6 @@
 // Showing a row: the eight cells themselves, a part of FLASH or of EEPROM as the address says.
+#![tactic(auto)]
+
 ghost use Rattle.std.specs.Prelude.{◌≡◌};
 ghost use Rattle.memory_row.specs.Shown.{shown, shown_at, shown_number};
 

@@ -1,4 +1,6 @@
 // Whether two parts of memories hold the same cells.
+#![tactic(auto)]
+
 ghost use Rattle.std.specs.Prelude.{◌&&◌, ◌≡◌, eqb, length};
 ghost use Rattle.memory_same.specs.Same.{same};
 

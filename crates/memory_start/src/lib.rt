@@ -1,4 +1,6 @@
 // What the two flags say of a FLASH, and whether its firmware starts.
+#![tactic(auto)]
+
 ghost use Rattle.std.specs.Prelude.{◌≡◌};
 ghost use Rattle.memory_start.specs.Start.{cells_differ, flags_of, starts};
 ghost use Rattle.memory_start.specs.Internal.Examining.{examined};
@@ -7,7 +9,7 @@ use memory_address::{FLASH_CELLS, THREE_CELLS};
 
 // What is found of a FLASH: the worked-out sum, and the flag byte, whose bit 0 says that the sums differ and bit 1 that the three
 // cells do.
-#[derive(Drop)]
+#[derive(Clone, Copy)]
 pub struct Examined {
     pub sum: u32,
     pub flags: u8,

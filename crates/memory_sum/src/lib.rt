@@ -1,4 +1,6 @@
 // The firmware sum and the stored sum.
+#![tactic(auto)]
+
 ghost use Rattle.std.specs.Prelude.{◌≡◌, ◌≤◌, ◌+◌, ◌*◌, length};
 ghost use Rattle.base.specs.Parts.{sum_of, high_first};
 ghost use Rattle.memory_sum.specs.Sum.{firmware_sum, stored_sum_of};

@@ -1,5 +1,7 @@
 // The node's calls: a fresh one, restart, a CAN frame, a UART byte and a piece of UART bytes. The theorems of demands one and two speak of
 // these.
+#![tactic(auto)]
+
 pub use node_can::can_frame;
 pub use node_piece::uart_piece;
 pub use node_restart::{fresh, restart, restart_with};

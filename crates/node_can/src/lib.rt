@@ -1,5 +1,7 @@
 // A CAN frame. The call takes any record, which it tidies, and lent memories of any length; it asks nothing of its caller. The answer has
 // the number of document 01, the replies and the node.
+#![tactic(auto)]
+
 ghost use Rattle.std.specs.Prelude.{◌≡◌};
 ghost use Rattle.node_rules.specs.Step.{after, can_step};
 

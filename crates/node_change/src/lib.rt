@@ -1,4 +1,6 @@
 // What an effect does to the memories: they change here and nowhere else.
+#![tactic(auto)]
+
 ghost use Rattle.std.specs.Prelude.{◌≡◌};
 ghost use Rattle.node_rules.specs.Requests.{data_in};
 ghost use Rattle.node_rules.specs.Step.{bootfl_set, flash_after, eeprom_after};

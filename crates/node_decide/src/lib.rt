@@ -1,4 +1,6 @@
 // What a frame comes to: the outcome table's 1 and 3 to 9, one after the other, and else what it asks. No memory is read.
+#![tactic(auto)]
+
 mod request;
 
 ghost use Rattle.std.specs.Prelude.{◌≡◌};

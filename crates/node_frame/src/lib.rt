@@ -1,4 +1,6 @@
 // What more than one crate asks of a frame, of a mode and of the memories.
+#![tactic(auto)]
+
 ghost use Rattle.std.specs.Prelude.{◌≡◌, ◌<◌};
 ghost use Rattle.frame_rules.specs.Frame.{type_of};
 ghost use Rattle.memory_address.specs.Places.{full};

@@ -1,4 +1,6 @@
 // The bytes of a piece behind those that are held, up to the one with which fifteen are held; these are judged.
+#![tactic(auto)]
+
 ghost use Rattle.std.specs.Prelude.{◌≡◌, ◌≤◌, length};
 ghost use Rattle.base.specs.Parts.{part};
 ghost use Rattle.frame_rules.specs.Wrapping.{inner_of};
@@ -10,7 +12,7 @@ use node_rules::{Choices, Receiver};
 
 // How many bytes of a piece are taken, and what they give: 10, 11, or 0 for a right frame, whose twelve bytes are then the frame (which is
 // 0 else). The receiver has what stays held, after 0 nothing.
-#[derive(Drop)]
+#[derive(Clone, Copy)]
 pub struct Gathering {
     pub taken: usize,
     pub number: u8,
@@ -19,7 +21,7 @@ pub struct Gathering {
 }
 
 // The same without the frame.
-#[derive(Drop)]
+#[derive(Clone, Copy)]
 struct Filled {
     taken: usize,
     number: u8,

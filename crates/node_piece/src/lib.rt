@@ -1,5 +1,7 @@
 // UART in pieces. The call takes any record, which it tidies, a piece of any length and lent memories of any length; it asks nothing of its
 // caller. The answer says how many bytes were taken, and what the last of them gave.
+#![tactic(auto)]
+
 ghost use Rattle.std.specs.Prelude.{◌≡◌};
 ghost use Rattle.memory_address.specs.Places.{full};
 ghost use Rattle.node_rules.specs.Step.{can_step};

@@ -1,4 +1,6 @@
 // The UART port, for a byte and for a piece: whether it is open, an answer with no reply, and what stays held of a bad frame.
+#![tactic(auto)]
+
 ghost use Rattle.std.specs.Prelude.{◌≡◌, ◌≤◌, drop};
 ghost use Rattle.node_rules.specs.declared.Noise.TheVariants.{KeepFromNext};
 ghost use Rattle.node_rules.specs.Record.{receiving};

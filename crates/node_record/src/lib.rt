@@ -1,4 +1,6 @@
 // The node's record: tidied, and in another mode.
+#![tactic(auto)]
+
 mod tidying;
 
 ghost use Rattle.std.specs.Prelude.{◌≡◌};

@@ -1,4 +1,6 @@
 // The replies of an effect. The memories are read, and none is changed.
+#![tactic(auto)]
+
 mod making;
 mod reading;
 

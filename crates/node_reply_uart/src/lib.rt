@@ -1,4 +1,6 @@
 // The replies of an answer as they go out on UART.
+#![tactic(auto)]
+
 ghost use Rattle.std.specs.Prelude.{◌≡◌};
 ghost use Rattle.node_rules.specs.Uart.{wrapped_replies};
 

@@ -1,4 +1,6 @@
 // What a request comes to: the last column of the request table, with 8 and 9 in front. No memory is read.
+#![tactic(auto)]
+
 ghost use Rattle.std.specs.Prelude.{◌≡◌, not, [], ◌∷◌};
 ghost use Rattle.memory_address.specs.Rule.{is_legal};
 ghost use Rattle.node_rules.specs.Requests.{D, address_in, ruled_in, command_at, staged_by, staged_in, does, doing, asked};

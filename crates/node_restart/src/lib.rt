@@ -1,4 +1,6 @@
 // A fresh node, and restart. A restart takes any record, which it tidies, and lent memories of any length; it asks nothing of its caller.
+#![tactic(auto)]
+
 mod restarting;
 
 ghost use Rattle.std.specs.Prelude.{◌≡◌};

@@ -1,16 +1,18 @@
 // The node's record, what a frame comes to and what a call answers. The rules themselves stand in specs/, laid out as document 01 is, and
 // proofs/ has what follows from them alone.
+#![tactic(auto)]
+
 use memory_address::{Address, FlashAddress, Group, Module};
 
 // The pin: which ports the node listens on.
-#[derive(Drop)]
+#[derive(Clone, Copy)]
 pub enum Pin {
     CanOnly,
     CanAndUart,
 }
 
 // The staged command with its address. Erase can carry only a FLASH address.
-#[derive(Drop)]
+#[derive(Clone, Copy)]
 pub enum Staged {
     Nothing,
     Read(Address),
@@ -19,7 +21,7 @@ pub enum Staged {
 }
 
 // The mode, with what belongs to it: normal with firmware started or not, programming with what is staged.
-#[derive(Drop)]
+#[derive(Clone, Copy)]
 pub enum Mode {
     Normal(bool),
     Programming(Staged),
@@ -29,21 +31,21 @@ pub enum Mode {
 
 // What becomes of fifteen bytes with a wrong sum or stop: the first is dropped, and from the next 0xAA on they stay held; or all are dropped,
 // the old way, which has to be asked for by name.
-#[derive(Drop)]
+#[derive(Clone, Copy)]
 pub enum Noise {
     KeepFromNext,
     DropAll,
 }
 
 // What is chosen at a restart, and kept until the next one that gives 0.
-#[derive(Drop)]
+#[derive(Clone, Copy)]
 pub struct Choices {
     pub pin: Pin,
     pub noise: Noise,
 }
 
 // The plate: ID0 to ID3 with DEVID1 and DEVID2, and the own numbers, which a restart copies from EEPROM.
-#[derive(Drop)]
+#[derive(Clone, Copy)]
 pub struct Plate {
     pub fixed: [u8; 6],
     pub own: Module,
@@ -52,14 +54,14 @@ pub struct Plate {
 
 // What is being received on UART: the first `count` bytes are held, and 0 stands behind them. At most 14 are held: the fifteenth
 // completes a frame.
-#[derive(Drop)]
+#[derive(Clone, Copy)]
 pub struct Receiver {
     pub held: [u8; 15],
     pub count: usize,
 }
 
 // A node.
-#[derive(Drop)]
+#[derive(Clone, Copy)]
 pub struct Node {
     pub choices: Choices,
     pub plate: Plate,
@@ -68,14 +70,14 @@ pub struct Node {
 }
 
 // The mode in which a type is handled.
-#[derive(Drop)]
+#[derive(Clone, Copy)]
 pub enum HandledIn {
     InNormal,
     InProgramming,
 }
 
 // How a type is addressed: as "group", as "node", by both frame numbers 0x00, or by the own numbers in the frame.
-#[derive(Drop)]
+#[derive(Clone, Copy)]
 pub enum Addressing {
     AsGroup,
     AsNode,
@@ -84,7 +86,7 @@ pub enum Addressing {
 }
 
 // What a type asks.
-#[derive(Drop)]
+#[derive(Clone, Copy)]
 pub enum Request {
     EnterProgramming,
     WaitForRestart,
@@ -98,7 +100,7 @@ pub enum Request {
 }
 
 // A row of the table of handled types.
-#[derive(Drop)]
+#[derive(Clone, Copy)]
 pub struct Kind {
     pub frame_type: u16,
     pub handled: HandledIn,
@@ -107,14 +109,14 @@ pub struct Kind {
 }
 
 // What the table says of a type.
-#[derive(Drop)]
+#[derive(Clone, Copy)]
 pub enum Found {
     Handled(Kind),
     Unhandled,
 }
 
 // What becomes of the memories: they are kept, BOOTFL becomes a value, a row is written, or a block is erased.
-#[derive(Drop)]
+#[derive(Clone, Copy)]
 pub enum Memory {
     Kept,
     Bootfl(u8),
@@ -123,7 +125,7 @@ pub enum Memory {
 }
 
 // The mode afterwards: it stays, is programming with this staged, or is waiting for restart.
-#[derive(Drop)]
+#[derive(Clone, Copy)]
 pub enum Next {
     Stays,
     Programs(Staged),
@@ -131,7 +133,7 @@ pub enum Next {
 }
 
 // Which reply: none, or the data of a row of the request table.
-#[derive(Drop)]
+#[derive(Clone, Copy)]
 pub enum Reply {
     Silent,
     Entered,
@@ -144,7 +146,7 @@ pub enum Reply {
 }
 
 // What a frame comes to: its number, the reply, and what becomes of memories and mode.
-#[derive(Drop)]
+#[derive(Clone, Copy)]
 pub struct Effect {
     pub number: u8,
     pub reply: Reply,
@@ -153,14 +155,14 @@ pub struct Effect {
 }
 
 // How many replies of 12 bytes, and their bytes; 0 behind them.
-#[derive(Drop)]
+#[derive(Clone, Copy)]
 pub struct Replies {
     pub count: u8,
     pub bytes: [u8; 24],
 }
 
 // The answer to a CAN frame: the number, how many replies of 12 bytes (0 behind them), and the node.
-#[derive(Drop)]
+#[derive(Clone, Copy)]
 pub struct Answer {
     pub number: u8,
     pub count: u8,
@@ -169,7 +171,7 @@ pub struct Answer {
 }
 
 // The answer to a UART byte: the same, with replies of 15 wrapped bytes.
-#[derive(Drop)]
+#[derive(Clone, Copy)]
 pub struct UartAnswer {
     pub number: u8,
     pub count: u8,
@@ -178,7 +180,7 @@ pub struct UartAnswer {
 }
 
 // The answer to a restart.
-#[derive(Drop)]
+#[derive(Clone, Copy)]
 pub struct Restarted {
     pub number: u8,
     pub node: Node,

@@ -1,4 +1,6 @@
 // The handled types, in one table.
+#![tactic(auto)]
+
 ghost use Rattle.std.specs.Prelude.{◌≡◌};
 ghost use Rattle.node_rules.specs.Requests.{found};
 

@@ -1,5 +1,6 @@
 // A UART byte. The call takes any record, which it tidies, and lent memories of any length; it asks nothing of its caller. The answer has
 // the number of document 01, the replies, wrapped, and the node.
+#![tactic(auto)]
 
 ghost use Rattle.std.specs.Prelude.{◌≡◌};
 ghost use Rattle.node_rules.specs.Uart.{uart_after, uart_step};

@@ -1,4 +1,6 @@
 // The address that an item of a recipe names.
+#![tactic(auto)]
+
 ghost use Rattle.std.specs.Prelude.{◌≡◌, ◌<◌, drop};
 ghost use Rattle.recipe.specs.Faults.{address_of};
 

@@ -1,5 +1,7 @@
 // The faults of a recipe's items: what is wrong at a place, and how many bytes an item takes. Who walks a recipe asks the one and goes on
 // by the other.
+#![tactic(auto)]
+
 mod kind;
 
 ghost use Rattle.std.specs.Prelude.{◌≡◌, ◌+◌, ◌≤◌, drop};

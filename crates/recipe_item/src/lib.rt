@@ -1,4 +1,6 @@
 // The frames of one item of a recipe, put into a lent output.
+#![tactic(auto)]
+
 mod frame;
 mod put;
 

@@ -4,7 +4,7 @@ ghost use Rattle.base.specs.Parts.{Bytes};
 ghost use Rattle.recipe_translate.specs.Internal.Steps.{next_of, AtCursor};
 
 // Where a reading stands: the place, the number of the item there, whether Leave has come, and the frames of the items before it.
-#[derive(Drop)]
+#[derive(Clone, Copy)]
 pub struct Cursor {
     pub place: usize,
     pub number: usize,

@@ -1,4 +1,6 @@
 // The translator: from a recipe's bytes to frames of 12 bytes each in a lent output.
+#![tactic(auto)]
+
 mod cursor;
 mod kind;
 

@@ -2,7 +2,7 @@
 use base::byte_at;
 
 // A header: the recipe's length, the image's and that of the lent output, the image's fill with its steps, and how many patches follow.
-#[derive(Drop)]
+#[derive(Clone, Copy)]
 pub struct Header {
     pub length: usize,
     pub cells: usize,

@@ -1,7 +1,7 @@
 // The line of a recipe.
 
 // What a line says beside the recipe's place in the stream.
-#[derive(Drop)]
+#[derive(Clone, Copy)]
 pub struct Line {
     pub number: u64,
     pub value: u64,

@@ -1,5 +1,7 @@
 // Reads a stream of recipes with images (second/PROTOCOL.md) from standard input, has the proved call make each shorter and prints what
 // that page says.
+#![tactic(auto)]
+
 mod header;
 mod line;
 mod patches;
@@ -10,7 +12,7 @@ use header::Header;
 use line::Line;
 
 // Where the stream stands: how many recipes came, and whether nothing is left.
-#[derive(Drop)]
+#[derive(Clone, Copy)]
 struct Place {
     at: u64,
     done: bool,

@@ -1,4 +1,6 @@
 // How the long runs write bytes down (second/PROTOCOL.md): their digest.
+#![tactic(auto)]
+
 ghost use Rattle.std.specs.Prelude.{◌≡◌};
 ghost use Rattle.run_digest.specs.Internal.Digest.{one_more, digest_of};
 

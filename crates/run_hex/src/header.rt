@@ -3,7 +3,7 @@ use base::byte_at;
 use memory_address::{Group, Module};
 
 // A header: the numbers for the recipe, the text's length and that of the lent output.
-#[derive(Drop)]
+#[derive(Clone, Copy)]
 pub struct Header {
     pub m: Module,
     pub g: Group,

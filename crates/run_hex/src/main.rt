@@ -1,4 +1,6 @@
 // Reads a stream of HEX texts (second/PROTOCOL.md) from standard input, has the proved call convert each and prints what that page says.
+#![tactic(auto)]
+
 mod header;
 mod line;
 mod slices;
@@ -8,7 +10,7 @@ use hex_rules::Converted;
 use line::Line;
 
 // Where the stream stands: how many texts came, and whether nothing is left.
-#[derive(Drop)]
+#[derive(Clone, Copy)]
 struct Place {
     at: u64,
     done: bool,

@@ -3,7 +3,7 @@ use crate::slices;
 use node_rules::{Answer, Node, UartAnswer};
 
 // The node after what was handed over so far, and the digest of the answers.
-#[derive(Drop)]
+#[derive(Clone, Copy)]
 pub struct Handed {
     pub node: Node,
     pub answers: u64,

@@ -5,7 +5,7 @@ use base::byte_at;
 
 // A header: the port (0 CAN, else UART), the fills and their steps, the own numbers, the recipe's length and that of the lent output,
 // the record that the delivery begins with, and the length of a piece on UART (0: byte by byte).
-#[derive(Drop)]
+#[derive(Clone, Copy)]
 pub struct Header {
     pub port: u8,
     pub flash: u8,

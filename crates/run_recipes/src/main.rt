@@ -1,5 +1,7 @@
 // Reads a stream of recipes (second/PROTOCOL.md) from standard input, has the proved translator translate each, hands the frames to
 // the proved node and prints what that page says.
+#![tactic(auto)]
+
 mod apply;
 mod hand;
 mod header;
@@ -13,7 +15,7 @@ use header::Header;
 
 // Where the stream stands: how many recipes came, whether the old way after noise is meant where nothing is said of it, and whether nothing
 // is left.
-#[derive(Drop)]
+#[derive(Clone, Copy)]
 struct Place {
     at: u64,
     old: bool,

@@ -4,7 +4,7 @@ use memory_address::{Address, EepromPlace, FlashAddress};
 use node_rules::{Choices, Mode, Node, Noise, Pin, Receiver, Restarted, Staged};
 
 // What a header says of it: the pin's byte, the way's byte (0: nothing is said of it), what is staged, and the held bytes with their count.
-#[derive(Drop)]
+#[derive(Clone, Copy)]
 pub struct Begin {
     pub pin: u8,
     pub way: u8,

@@ -7,7 +7,7 @@ use memory_address::Address;
 use node_rules::{Mode, Staged};
 
 // What the last seven bytes say.
-#[derive(Drop)]
+#[derive(Clone, Copy)]
 pub struct Last {
     pub mode: u8,
     pub staged: u8,

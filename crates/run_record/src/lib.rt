@@ -1,4 +1,6 @@
 // How the long runs write things down (second/PROTOCOL.md): the node's record as 31 bytes.
+#![tactic(auto)]
+
 mod last;
 
 ghost use Rattle.std.specs.Prelude.{◌≡◌};

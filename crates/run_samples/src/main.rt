@@ -1,5 +1,7 @@
 // Runs document 01's samples, and vectors beside them, through the proved crates and prints a line for each. Each printed answer comes
 // from a public function of theirs; what must be printed stands in the file stdout.
+#![tactic(auto)]
+
 mod frame_lines;
 mod frame_vectors;
 mod memory_lines;

@@ -1,5 +1,7 @@
 // Reads a stream of session events (second/PROTOCOL.md) from standard input, hands each to the proved crates and prints what that page
 // says. Nothing is decided here: this program only takes records apart and writes answers down.
+#![tactic(auto)]
+
 mod closing;
 mod event;
 mod handed;

@@ -4,7 +4,7 @@ use node_rules::Node;
 // A session: its number, the events that had an answer, their digest, the lines that are still printed in full, how many cells of each
 // memory are lent, the node, how often restart, CAN frame, UART byte and UART piece gave each number, whether answers tell the way after
 // noise, whether the old way is meant where nothing is said of it (in later sessions too), and whether the stream has ended.
-#[derive(Drop)]
+#[derive(Clone, Copy)]
 pub struct Session {
     pub number: u64,
     pub events: u64,

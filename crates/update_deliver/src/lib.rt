@@ -1,5 +1,7 @@
 // A recipe delivered to a node: it is translated, and its frames are handed over one by one. What the node then holds is demand 3, in
 // crate update.
+#![tactic(auto)]
+
 mod handing;
 
 ghost use Rattle.std.specs.Prelude.{◌≡◌, length};
@@ -9,7 +11,7 @@ use node_rules::Node;
 use recipe::Translated;
 
 // What a delivery answers: the translator's answer, the node afterwards, and how many answers were told.
-#[derive(Drop)]
+#[derive(Clone, Copy)]
 pub struct Delivered {
     pub translated: Translated,
     pub node: Node,

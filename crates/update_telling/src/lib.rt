@@ -1,4 +1,6 @@
 // What is told of an answer, for whoever hands frames over.
+#![tactic(auto)]
+
 ghost use Rattle.std.specs.Prelude.{◌≡◌};
 ghost use Rattle.update_rules.specs.Delivery.{told};
 

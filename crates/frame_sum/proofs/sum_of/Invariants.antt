@@ -1,0 +1,11 @@
+-- `frame_sum::sum_of` meets its contract: after i turns the sum is that of the first i bytes, modulo 256.
+-- Assumes nothing.
+use Rattle.std.proofs.Common.{◌≡◌, ◌-◌, ◌%◌, ◌≤◌, length, take}
+use Rattle.base.specs.Parts.{sum_of}
+use Rattle.frame_sum.proofs.sum_of.Given as goal
+
+abbrev pub invariant-loop-i : goal.invariant-loop-i
+invariant-loop-i l = (l.i ≤ length l.bytes) × (l.sum ≡ sum_of (take l.i l.bytes) % 256)
+
+abbrev pub decreases-loop-i : goal.decreases-loop-i
+decreases-loop-i l = length l.bytes - l.i
