@@ -64,9 +64,9 @@ pub struct File {
     pub declarations: Vec<Declaration>,
 }
 
-/// What a `use` line brings; `line` begins behind the word `use`.
+/// What a `use` brings; `line` begins behind the word `use`, and may be several lines joined.
 pub fn used(line: &str) -> Vec<Use> {
-    let line = line.trim().trim_end_matches(';');
+    let line = line.trim().trim_end_matches(';').trim_end();
     if let Some((path, names)) = line.split_once(".{") {
         let names = names.trim_end_matches('}').split(',').map(str::trim).filter(|n| !n.is_empty());
         return names
@@ -105,11 +105,23 @@ fn items(lines: Vec<Line>) -> Vec<Vec<Line>> {
     let mut found: Vec<Vec<Line>> = Vec::new();
     for line in lines {
         match found.last_mut() {
-            Some(item) if line.indent > item[0].indent && !opens_module(item) => item.push(line),
+            Some(item) if closes(&line) || line.indent > item[0].indent && !opens_module(item) => {
+                item.push(line)
+            }
             _ => found.push(vec![line]),
         }
     }
     found
+}
+
+/// Whether a line begins with the bracket that closes one of the lines above.
+fn closes(line: &Line) -> bool {
+    line.text.trim_start().starts_with(['}', ')', ']'])
+}
+
+/// Some lines as one.
+pub fn joined(lines: &[Line]) -> String {
+    lines.iter().map(|l| l.text.trim()).collect::<Vec<_>>().join(" ")
 }
 
 /// Whether these lines are a whole header `module _ .. where`.
@@ -124,8 +136,11 @@ pub fn parse(text: &str) -> File {
         let indent = item[0].indent;
         open.retain(|(depth, _)| *depth < indent);
         let first = item[0].text.trim_start().to_string();
-        if let Some(rest) = first.strip_prefix("use ") {
-            file.uses.extend(used(rest));
+        let plain = first.strip_prefix("pub ").unwrap_or(&first);
+        if plain.starts_with("use ") {
+            let line = joined(&item);
+            let line = line.strip_prefix("pub ").unwrap_or(&line);
+            file.uses.extend(used(line.strip_prefix("use ").unwrap_or("")));
         } else if opens_module(&item) {
             open.push((indent, file.headers.len()));
             file.headers.push(item);
@@ -199,8 +214,12 @@ mod tests {
 
     const TEXT: &str = "\
 -- a file
-use lib.ListN.{length, getD as at}
-use Rattle·x.proofs.f.Reads as reads
+use Rattle.std.specs.Prelude.{length, get_or as at}
+use Rattle.x.proofs.f.Reads as reads
+use Rattle.x.specs.S.{
+  one,
+  two,
+}
 
 -- one
 abbrev pub one : Node → Kind
@@ -259,11 +278,20 @@ pub record R (a : ℕ) : Type 0 where
         let f = parse(TEXT);
         assert_eq!(
             f.uses[1],
-            Use { path: "lib.ListN".into(), name: Some("getD".into()), local: "at".into() }
+            Use {
+                path: "Rattle.std.specs.Prelude".into(),
+                name: Some("get_or".into()),
+                local: "at".into()
+            }
         );
         assert_eq!(
             f.uses[2],
-            Use { path: "Rattle·x.proofs.f.Reads".into(), name: None, local: "reads".into() }
+            Use { path: "Rattle.x.proofs.f.Reads".into(), name: None, local: "reads".into() }
+        );
+        assert_eq!(f.uses.len(), 5);
+        assert_eq!(
+            f.uses[4],
+            Use { path: "Rattle.x.specs.S".into(), name: Some("two".into()), local: "two".into() }
         );
     }
 }

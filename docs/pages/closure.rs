@@ -8,7 +8,7 @@ use crate::tokens::{normal, tokens};
 use std::collections::{BTreeMap, BTreeSet};
 
 /// Words that nothing in scope explains and that the language has of itself.
-const OWN: &[&str] = &["⊥", "Unit", "Bool", "ℕ", "now", "×", "Σ"];
+const OWN: &[&str] = &["Unit", "tt", "absurd"];
 
 pub struct Closure<'a> {
     repo: &'a Repo,

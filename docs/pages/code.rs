@@ -1,6 +1,6 @@
 //! A file of code (`.rt`): its structs, enums, constants and functions, each function with its contract, and its `use` lines.
 
-use crate::antt::{lines, used, Line, Use};
+use crate::antt::{joined, lines, used, Line, Use};
 
 #[derive(Clone, Copy, Debug, PartialEq, Eq)]
 pub enum Kind {
@@ -46,17 +46,17 @@ pub fn parse(text: &str) -> File {
     let mut at = 0;
     while at < all.len() {
         let line = all[at].text.as_str();
-        if let Some(rest) = line.strip_prefix("ghost use ") {
-            file.ghosts.extend(used(rest));
-            at += 1;
-            continue;
-        }
         let plain = line.strip_prefix("pub ").unwrap_or(line);
-        if let Some(path) = plain.strip_prefix("use ") {
-            let path: Vec<String> =
-                path.trim_end_matches(';').split("::").map(str::to_string).collect();
-            file.passed.push((path[path.len() - 1].clone(), path));
-            at += 1;
+        if line.starts_with("ghost use ") || plain.starts_with("use ") {
+            let end = at + all[at..].iter().take_while(|l| !l.text.ends_with(';')).count();
+            let whole = joined(&all[at..all.len().min(end + 1)]);
+            let plain = whole.strip_prefix("pub ").unwrap_or(&whole);
+            if let Some(rest) = plain.strip_prefix("ghost use ") {
+                file.ghosts.extend(used(rest));
+            } else if let Some(rest) = plain.strip_prefix("use ") {
+                file.passed.extend(brought(rest.trim_end_matches(';')));
+            }
+            at = end + 1;
             continue;
         }
         let Some((kind, rest)) = begun(plain) else {
@@ -86,6 +86,23 @@ pub fn parse(text: &str) -> File {
         file.items.push(Item { kind, name, lines: own, parts });
     }
     file
+}
+
+/// What `use a::b::C`, `use a::{b, C}` or `use a::C as D` brings, as (local name, path).
+fn brought(path: &str) -> Vec<(String, Vec<String>)> {
+    let (before, names) = path.split_once('{').unwrap_or(("", path));
+    let before: Vec<&str> = before.split("::").filter(|p| !p.is_empty()).collect();
+    let names = names.trim_end_matches('}').split(',').map(str::trim).filter(|n| !n.is_empty());
+    names
+        .map(|n| {
+            let (path, local) = n.split_once(" as ").map_or((n, None), |(p, l)| (p, Some(l)));
+            let mut way: Vec<String> = before.iter().map(|p| p.to_string()).collect();
+            way.extend(path.split("::").filter(|p| *p != "self").map(str::to_string));
+            let local =
+                local.map_or_else(|| way.last().cloned().unwrap_or_default(), str::to_string);
+            (local, way)
+        })
+        .collect()
 }
 
 fn begun(line: &str) -> Option<(Kind, &str)> {
@@ -137,9 +154,14 @@ mod tests {
 
     const TEXT: &str = "\
 // code
-ghost use Rattle·x·specs.specs.S.{one};
+ghost use Rattle.x.specs.S.{one};
 use a::b::C;
 pub use d::f;
+use e::{
+    g, h as i,
+};
+
+#[derive(Clone, Copy)]
 
 pub struct T(pub u32);
 
@@ -158,8 +180,10 @@ pub const K: u8 = 3;
 
 // f
 pub fn g(n: N, m: &mut [u8]) -> E
-    ensures { λ r. ⌜
-        one r (now (m .exit)) ≡ n ⌝ }
+    requires { m.old ≡ m.old }
+    ensures kept { one result m.new ≡ n }
+    ensures known {
+        result ≡ result }
 {
     let q = 3;
     E::One
@@ -178,13 +202,15 @@ fn main() {
         assert_eq!(f.items[1].parts, ["x", "y"]);
         assert_eq!(f.items[2].parts, ["One", "Two", "Three", "number", "place"]);
         assert_eq!(f.passed[1], ("f".to_string(), vec!["d".to_string(), "f".to_string()]));
+        assert_eq!(f.passed[2], ("g".to_string(), vec!["e".to_string(), "g".to_string()]));
+        assert_eq!(f.passed[3], ("i".to_string(), vec!["e".to_string(), "h".to_string()]));
         assert_eq!(f.ghosts.len(), 1);
     }
 
     #[test]
     fn a_body_is_no_part_of_a_contract() {
         let f = parse(TEXT);
-        assert_eq!(f.items[4].lines.len(), 3);
+        assert_eq!(f.items[4].lines.len(), 5);
         assert_eq!(f.items[4].parts, ["n", "m"]);
         assert_eq!(f.items[5].lines.len(), 1);
     }

@@ -9,22 +9,27 @@ use std::collections::{BTreeMap, BTreeSet};
 #[rustfmt::skip]
 const LANGUAGE: &[&str] = &[
     "abbrev", "unfoldable", "pub", "data", "record", "where", "module", "let", "in", "Type", "_",
-    "requires", "ensures", "now", "fn", "mut",
+    "requires", "ensures", "result", "fn", "mut",
 ];
 
-/// The names in scope: what each stands for. An operator `_≡_` stands under its sign.
+/// The names in scope: what each stands for. An operator `◌≡◌` stands under its sign, and `if◌then◌else◌` under each of its words.
 pub struct Scope {
     names: BTreeMap<String, Vec<Thing>>,
     aliases: BTreeMap<String, String>,
 }
 
 pub fn sign(name: &str) -> String {
-    let bare = name.trim_matches('_');
-    if bare.is_empty() || bare.chars().any(char::is_alphanumeric) {
+    let bare = name.trim_matches('◌');
+    if bare.is_empty() {
         name.to_string()
     } else {
-        bare.to_string()
+        bare.replace('◌', " ")
     }
+}
+
+/// The words under which a name is found.
+fn signs(name: &str) -> Vec<String> {
+    sign(name).split(' ').map(str::to_string).collect()
 }
 
 impl Scope {
@@ -33,7 +38,10 @@ impl Scope {
         for u in uses {
             match &u.name {
                 Some(name) => {
-                    scope.names.insert(sign(&u.local), repo.named(&u.path, name)?);
+                    let things = repo.named(&u.path, name)?;
+                    for word in signs(&u.local) {
+                        scope.names.insert(word, things.clone());
+                    }
                 }
                 None => {
                     scope.aliases.insert(u.local.clone(), u.path.clone());
@@ -54,7 +62,9 @@ impl Scope {
             }
             for name in own {
                 let things = repo.in_file(file, &name);
-                scope.names.insert(sign(&name), things);
+                for word in signs(&name) {
+                    scope.names.insert(word, things.clone());
+                }
             }
         }
         Ok(scope)
@@ -116,13 +126,17 @@ impl Found {
                 Token::Name(n)
                     if LANGUAGE.contains(&n.as_str())
                         || is_label(tokens, i)
+                        || is_clause(tokens, i)
                         || is_binding(tokens, i) => {}
                 Token::Name(n) if names.contains(n) => {}
                 Token::Name(n) => self.look_up(scope, n),
                 Token::Symbol(s) if scope.names.contains_key(s) => self.look_up(scope, s),
+                // a field of what is bound
+                Token::Qualified(before, _)
+                    if names.contains(before) || LANGUAGE.contains(&before.as_str()) => {}
                 Token::Qualified(alias, name) => match scope.aliases.get(alias) {
                     Some(path) => self.things.extend(repo.named(path, name)?),
-                    // `Memory.Kept`: a variant of a type
+                    // `Memory.Kept`: a variant of a type; or a field of what a definition gives
                     None if scope.names.contains_key(alias) => self.look_up(scope, alias),
                     None => {
                         self.unknown.insert(format!("{alias}.{name}"));
@@ -148,6 +162,12 @@ impl Found {
 fn is_label(tokens: &[Token], i: usize) -> bool {
     let before = i > 0 && (tokens[i - 1].is("{") || tokens[i - 1].is(";"));
     before && tokens.get(i + 1).is_some_and(|t| t.is("="))
+}
+
+/// `ensures kept { .. }`: whether the name at i is such a clause's.
+fn is_clause(tokens: &[Token], i: usize) -> bool {
+    let kind = i.checked_sub(1).and_then(|j| tokens[j].name());
+    matches!(kind, Some("requires" | "ensures")) && tokens.get(i + 1).is_some_and(|t| t.is("{"))
 }
 
 /// The names a, b of `(a b : ..)` or `{a b : ..}`, whose bracket is at i.
@@ -194,10 +214,16 @@ fn matched(repo: &Repo, scope: &Scope, left: &[Token]) -> Vec<String> {
                 repo.declaration(file, *at).parts.iter().any(|p| p == name)
             }
             Thing::Coded(file, at) => repo.item(file, *at).parts.iter().any(|p| p == name),
-            Thing::Kit(path, _) => path.starts_with("mathlib") || path.starts_with("Prim"),
+            Thing::Kit(_, kits) => builds_in_kit(kits),
         })
     };
     left.iter().skip(1).filter_map(Token::name).filter(|n| !builds(n)).map(str::to_string).collect()
+}
+
+/// Whether a name of the kit is a constructor's.
+fn builds_in_kit(name: &str) -> bool {
+    name.starts_with(char::is_uppercase)
+        || matches!(name, "zero" | "suc" | "true" | "false" | "pos" | "negsuc" | "refl")
 }
 
 /// What the statement of a declaration names: its head, and the headers around it.
@@ -339,8 +365,8 @@ mod tests {
     use super::*;
 
     const CODE: &str = "\
-ghost use lib.N.{_≡_};
-ghost use Rattle·x·specs.specs.S.{same};
+ghost use Rattle.std.specs.Prelude.{◌≡◌};
+ghost use Rattle.x.specs.S.{same};
 pub struct T {
     pub a: u8,
 }
@@ -349,28 +375,35 @@ pub enum E {
     One(T),
 }
 
+pub const K: u8 = 3;
+
 pub fn f(t: T) -> E
-    ensures { λ r. ⌜ r ≡ same t ⌝ }
+    ensures whole { result ≡ same t }
+    ensures part { result.a ≡ t.a }
 {
     g()
 }
 ";
 
     const SPECS: &str = "\
-use lib.N.{_≡_, ℕ}
-use Rattle·x·specs.specs.declared.T.{T}
-use Rattle·x·specs.specs.declared.E.the-variants.{One}
+use Rattle.std.specs.Prelude.{◌≡◌, ℕ}
+use Rattle.x.specs.declared.T.{T}
+use Rattle.x.specs.declared.E.TheVariants.{One}
+use Rattle.x.specs.declared.TheConstants.{K}
 abbrev pub help : T → ℕ
-help t = t .a
+help t = t.a
 
 abbrev pub same : T → ℕ → ℕ
 same help k = k
 same t (One k) = help t
+
+abbrev pub most : ℕ
+most = K
 ";
 
     const PROOFS: &str = "\
-use Rattle·x.specs.S.{same}
-use Rattle·x·proofs.proofs.f.Reads as reads
+use Rattle.x.specs.S.{same}
+use Rattle.x.proofs.f.Reads as reads
 module _ (same : A) where
   pub holds : same ≡ (b : reads.Post) → zz
   holds = other
@@ -396,9 +429,26 @@ module _ (same : A) where
     }
 
     #[test]
+    fn a_definition_names_constants() {
+        let found = in_definition(&repo(), "x/specs/S.antt", 2).unwrap();
+        assert!(found.things.contains(&Thing::Coded("x/src/lib.rt".into(), 2)));
+    }
+
+    #[test]
+    fn a_word_of_an_operator_names_it() {
+        let mut r = repo();
+        let text = "use Rattle.std.specs.Prelude.{if◌then◌else◌}\nabbrev pub c : b\nc = if b then x else y\n";
+        r.add("x/specs/C.antt".into(), text.into());
+        let found = in_definition(&r, "x/specs/C.antt", 0).unwrap();
+        let choice = Thing::Kit("Rattle.std.specs.Prelude".into(), "if◌then◌else◌".into());
+        assert_eq!(found.things.into_iter().collect::<Vec<_>>(), [choice]);
+        assert_eq!(found.unknown.into_iter().collect::<Vec<_>>(), ["b", "x", "y"]);
+    }
+
+    #[test]
     fn a_statement_names_contracts_and_not_what_its_proof_names() {
         let found = in_statement(&repo(), "x/proofs/P.antt", 0).unwrap();
-        assert!(found.things.contains(&Thing::Coded("x/src/lib.rt".into(), 2)));
+        assert!(found.things.contains(&Thing::Coded("x/src/lib.rt".into(), 3)));
         assert!(!found.things.contains(&Thing::Declared("x/specs/S.antt".into(), 1)));
         assert_eq!(found.unknown.iter().cloned().collect::<Vec<_>>(), ["A", "zz"]);
     }
@@ -407,7 +457,7 @@ module _ (same : A) where
     fn what_is_bound_is_so_to_the_end_of_its_bracket() {
         let mut r = repo();
         let text = "\
-use Rattle·x.specs.S.{same, help}
+use Rattle.x.specs.S.{same, help}
 pub p : ((same : ℕ) → same) → help
 pub q : ((same : ℕ) → help) → same
 ";
@@ -419,10 +469,12 @@ pub q : ((same : ℕ) → help) → same
 
     #[test]
     fn a_contract_names_types_and_definitions() {
-        let found = in_code(&repo(), "x/src/lib.rt", 2).unwrap();
+        let found = in_code(&repo(), "x/src/lib.rt", 3).unwrap();
         assert!(found.things.contains(&Thing::Coded("x/src/lib.rt".into(), 0)));
         assert!(found.things.contains(&Thing::Declared("x/specs/S.antt".into(), 1)));
-        assert!(found.things.contains(&Thing::Kit("lib.N".into(), "_≡_".into())));
+        let equal = Thing::Kit("Rattle.std.specs.Prelude".into(), "◌≡◌".into());
+        assert!(found.things.contains(&equal));
+        assert!(found.unknown.is_empty());
     }
 
     #[test]
@@ -443,7 +495,7 @@ pub q : ((same : ℕ) → help) → same
     #[test]
     fn an_import_of_nothing_is_an_error() {
         let mut r = repo();
-        r.add("x/specs/Q.antt".into(), "use Rattle·x.specs.S.{gone}\npub q : gone\n".into());
+        r.add("x/specs/Q.antt".into(), "use Rattle.x.specs.S.{gone}\npub q : gone\n".into());
         assert!(in_statement(&r, "x/specs/Q.antt", 0).is_err());
     }
 }

@@ -31,6 +31,8 @@ pub struct Repo {
 enum Place {
     File(String),
     Thing(Thing),
+    /// the constants of a crate's code, in a module of it: crate and way
+    Constants(String, Vec<String>),
 }
 
 impl Repo {
@@ -87,6 +89,12 @@ impl Repo {
         match self.place(path)? {
             None => Ok(vec![Thing::Kit(path.into(), name.into())]),
             Some(Place::Thing(thing)) => Ok(vec![thing]),
+            Some(Place::Constants(krate, mut way)) => {
+                way.push(name.into());
+                let way: Vec<&str> = way.iter().map(String::as_str).collect();
+                let found = self.coded(&krate, &way);
+                Ok(vec![found.ok_or(format!("{path}: crates/{krate}/src has no {name}"))?])
+            }
             Some(Place::File(file)) => {
                 let found = self.in_file(&file, name);
                 if found.is_empty() {
@@ -108,19 +116,30 @@ impl Repo {
 
     /// Where a path leads: nowhere for the kit's.
     fn place(&self, path: &str) -> Result<Option<Place>, String> {
-        let Some(own) = path.strip_prefix("Rattle·") else { return Ok(None) };
+        let Some(own) = path.strip_prefix("Rattle.") else { return Ok(None) };
         let parts: Vec<&str> = own.split('.').collect();
-        let krate = parts[0].split('·').next().unwrap_or("");
+        let krate = parts[0];
         if !self.crates.contains(krate) {
             return Ok(None);
         }
         let inside = &parts[1..];
         if inside.first() == Some(&"specs") && inside.get(1) == Some(&"declared") {
             let mut way: Vec<&str> = inside[2..].to_vec();
-            way.retain(|w| *w != "the-variants");
+            if way.last() == Some(&"TheConstants") {
+                way.pop();
+                let way = way.iter().map(|w| w.to_string()).collect();
+                return Ok(Some(Place::Constants(krate.into(), way)));
+            }
+            way.retain(|w| *w != "TheVariants");
             let found = self
                 .coded(krate, &way)
                 .ok_or(format!("{path}: no such type in crates/{krate}/src"))?;
+            return Ok(Some(Place::Thing(found)));
+        }
+        if inside.first() == Some(&"specs") && inside.get(1) == Some(&"contracts") {
+            let found = self
+                .coded(krate, &inside[2..])
+                .ok_or(format!("{path}: no such function in crates/{krate}/src"))?;
             return Ok(Some(Place::Thing(found)));
         }
         let file = format!("{krate}/{}.antt", inside.join("/"));

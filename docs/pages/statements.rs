@@ -39,8 +39,8 @@ pub fn page(repo: &Repo, cited: &BTreeSet<Citation>) -> Result<String, String> {
     }
     let statements = printed(repo, &all.statements, false);
     let definitions = printed(repo, &outside, true);
-    legend.read(&statements);
-    legend.read(&definitions);
+    legend.read(repo, &statements);
+    legend.read(repo, &definitions);
     legend.kit(kit(&named).values().flatten());
     let explained = legend.table(repo)?;
 

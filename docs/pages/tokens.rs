@@ -2,11 +2,11 @@
 
 #[derive(Clone, Debug, PartialEq, Eq)]
 pub enum Token {
-    /// `tidied`, `can-frame-number`, `d0`, `ℕ`
+    /// `tidied`, `can_frame_number`, `d0`, `ℕ`
     Name(String),
-    /// `reads.Post`: a name of what an alias stands for
+    /// `reads.Post`, a name of what an alias stands for; or `n.mode`, a field of what a name stands for
     Qualified(String, String),
-    /// ` .node`, ` .0`
+    /// `.0`, and `.mode` behind a bracket or another field
     Projection(String),
     /// `65536`, `0x001000`
     Number(String),
@@ -32,7 +32,7 @@ fn starts_name(c: char) -> bool {
 }
 
 fn in_name(c: char) -> bool {
-    (c.is_alphanumeric() && c != 'λ') || matches!(c, '_' | '-' | '′' | '·' | '\'')
+    (c.is_alphanumeric() && c != 'λ') || matches!(c, '_' | '-' | '\'')
 }
 
 fn is_bracket(c: char) -> bool {
@@ -134,11 +134,14 @@ mod tests {
 
     #[test]
     fn words() {
-        let t = tokens("r .node .0 ≡ f (a-b - 0x10) reads.Post λ (x : A). x′ ∷ []");
-        assert_eq!(normal(&t), "r .node .0 ≡ f ( a-b - 0x10 ) reads.Post λ ( x : A ) . x′ ∷ [ ]");
-        assert_eq!(t[1], Token::Projection("node".into()));
-        assert_eq!(t[6], Token::Name("a-b".into()));
-        assert_eq!(t[10], Token::Qualified("reads".into(), "Post".into()));
+        let t = tokens("r.node.0 ≡ f (a-b - 0x10) reads.Post λ (x : A). x' ∷ [] (g r).node");
+        let said = "r.node .0 ≡ f ( a-b - 0x10 ) reads.Post λ ( x : A ) . x' ∷ [ ] ( g r ) .node";
+        assert_eq!(normal(&t), said);
+        assert_eq!(t[0], Token::Qualified("r".into(), "node".into()));
+        assert_eq!(t[1], Token::Projection("0".into()));
+        assert_eq!(t[5], Token::Name("a-b".into()));
+        assert_eq!(t[9], Token::Qualified("reads".into(), "Post".into()));
+        assert_eq!(t[t.len() - 1], Token::Projection("node".into()));
     }
 
     #[test]

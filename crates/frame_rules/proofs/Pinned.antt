@@ -4,11 +4,10 @@
 use mathlib.Core.Path.{◌≡◌, refl}
 use mathlib.Core.Bool.{Bool, true, false}
 use mathlib.Core.List.{List, [], ◌∷◌, map}
-use Prim.Native.Nat.{ℕ, ◌+◌, ◌*◌, ◌/◌, ◌%◌, ◌≤◌, ◌<◌}
+use Prim.Native.Nat.{ℕ, ◌/◌, ◌%◌, ◌≤◌, ◌<◌}
 use native.Mathlib.Omega.{arith}
-use lib.ListN.{length, get_or, take, drop, replicate}
+use lib.ListN.{length, get_or, replicate}
 use borrow.Author.Tests.{eq-eqb, ne_eqb, le-leb, lt-leb}
-use Rattle.base.specs.Parts.{sum_of}
 use Rattle.frame_rules.specs.Frame.{identifier_of, head_of, hapcan_of}
 use Rattle.frame_rules.specs.Wrapping.{rightly_wrapped}
 use Rattle.frame_rules.specs.Plain.{identifier_with, frame_with, upper_three, Framed}

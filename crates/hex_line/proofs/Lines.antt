@@ -2,19 +2,18 @@
 -- those of the first line, and the other lines start behind its ending.
 -- Assumes nothing.
 use mathlib.Core.Path.{◌≡◌, ◌∙◌, refl, sym, ap}
-use mathlib.Core.Bool.{true, false, ◌&&◌, ◌||◌, false≢true}
+use mathlib.Core.Bool.{true, false, ◌||◌, false≢true}
 use mathlib.Core.List.{List, [], ◌∷◌, ◌++◌}
 use mathlib.Core.Logic.{◌⊎◌, inl, inr}
 use Prim.Native.Nat.{ℕ, zero, suc, ◌+◌, ◌-◌, ◌*◌, ◌≤◌, ◌<◌}
 use native.Mathlib.Omega.{arith}
-use borrow.Author.Tests.{ltb-true}
 use lib.ListN.{length, drop, replicate, length-append, length-drop}
 use lib.Seq.{drop_at, drop-drop}
 use Rattle.base.specs.Parts.{Bytes}
 use Rattle.base.proofs.Bytes.{byte_of}
-use Rattle.base.proofs.Choice.{cond_true, cond_false, true_or_false, both_true}
+use Rattle.base.proofs.Choice.{cond_true, cond_false, true_or_false}
 use Rattle.hex_rules.specs.Text.{lines_of}
-use Rattle.hex_rules.specs.Record.{digit_of, is_digit, all_digits, pairs_of, record_of, count_of, bad_digit, bad_length}
+use Rattle.hex_rules.specs.Record.{pairs_of, record_of, count_of, bad_digit, bad_length}
 use Rattle.hex_rules.proofs.Once.{pairs_bytes}
 use Rattle.hex_line.specs.declared.Line.{Line}
 use Rattle.hex_line.specs.Internal.Lines.{bad_line, ending, filled, line_by, line_at}

@@ -10,6 +10,8 @@ mod slices;
 use differs_rules::Differences;
 use header::Header;
 use line::Line;
+use std::io;
+use std::io::{BufReader, BufWriter, Read, Write};
 
 // Where the stream stands: how many recipes came, and whether nothing is left.
 #[derive(Clone, Copy)]
@@ -19,11 +21,12 @@ struct Place {
 }
 
 // Reads the bytes of a recipe, with what fills them up to whole records.
-fn read_recipe(length: usize, space: &mut [u8]) {
+fn read_recipe<R: Read>(input: &mut R, length: usize, space: &mut [u8]) -> io::Result<()> {
     if length < 139_265 {
         let n = (length + 63) / 64 * 64;
-        io::read_full(0, slices::lent(space, n));
+        run_stream::read_full(input, slices::lent(space, n))?;
     }
+    Ok(())
 }
 
 // The line of what a recipe came to, with the whole lent output.
@@ -53,24 +56,32 @@ fn shortened(recipe: &[u8], image: &[u8], output: &mut [u8]) -> Line {
 }
 
 // The image: filled, and the patches put that the stream has for it.
-fn read_image(h: Header, image: &mut [u8]) {
+fn read_image<R: Read>(input: &mut R, h: Header, image: &mut [u8]) -> io::Result<()> {
     slices::fill(image, h.fill, h.step, h.more);
-    patches::read(h.patches, image);
+    patches::read(input, h.patches, image)
 }
 
 // One recipe: its bytes and its image are read, and its line is printed.
-fn handle(at: u64, h: Header, space: &mut [u8], cells: &mut [u8], output: &mut [u8]) {
-    read_recipe(h.length, space);
+fn handle<R: Read, W: Write>(
+    input: &mut R,
+    printer: &mut W,
+    at: u64,
+    h: Header,
+    space: &mut [u8],
+    cells: &mut [u8],
+    output: &mut [u8],
+) -> io::Result<()> {
+    read_recipe(input, h.length, space)?;
     let recipe = slices::part(space, 0, h.length);
     let image = slices::lent(cells, h.cells);
-    read_image(h, image);
+    read_image(input, h, image)?;
     let l = shortened(recipe, image, slices::lent(output, h.room));
-    line::print(at, l);
+    line::print(printer, at, l)
 }
 
 // One recipe more.
 fn counted(mut p: Place) -> Place {
-    p.at = std::num::wrapping_add_u64(p.at, 1);
+    p.at = p.at.wrapping_add(1);
     p
 }
 
@@ -81,33 +92,63 @@ fn ended(mut p: Place) -> Place {
 }
 
 // Reads a header, and handles its recipe.
-fn turn(p: Place, space: &mut [u8], cells: &mut [u8], output: &mut [u8]) -> Place {
+fn turn<R: Read, W: Write>(
+    input: &mut R,
+    printer: &mut W,
+    p: Place,
+    space: &mut [u8],
+    cells: &mut [u8],
+    output: &mut [u8],
+) -> io::Result<Place> {
     let mut record = [0u8; 64];
-    let n = io::read_full(0, &mut record);
+    let n = run_stream::read_full(input, &mut record)?;
     if n < 64 {
-        return ended(p);
+        return Ok(ended(p));
     }
     let next = counted(p);
-    handle(next.at, header::read(&record), space, cells, output);
-    next
+    handle(
+        input,
+        printer,
+        next.at,
+        header::read(&record),
+        space,
+        cells,
+        output,
+    )?;
+    Ok(next)
 }
 
 // The whole stream. A loop has to end, so turns are counted, up to a number that no stream uses up.
-fn stream(space: &mut [u8], cells: &mut [u8], output: &mut [u8]) {
+fn stream<R: Read, W: Write>(
+    input: &mut R,
+    printer: &mut W,
+    space: &mut [u8],
+    cells: &mut [u8],
+    output: &mut [u8],
+) -> io::Result<()> {
     let mut p = Place { at: 0, done: false };
-    let mut turns: u32 = 0;
-    while turns < 0xFFFFFFFF {
+    for _ in 0..0xFFFFFFFFu32 {
         if p.done {
-            return;
+            return Ok(());
         }
-        p = turn(p, space, cells, output);
-        turns += 1;
+        p = turn(input, printer, p, space, cells, output)?;
     }
+    Ok(())
 }
 
-fn main() {
-    let mut space = [0u8; 139_264];
-    let mut cells = [0u8; 131_136];
-    let mut output = [0u8; 139_264];
-    stream(&mut space, &mut cells, &mut output);
+fn main(rt: HostRuntime) -> io::Result<()> {
+    let alloc = rt.alloc();
+    let mut space = vec![in alloc; 0u8; 139_264]?;
+    let mut cells = vec![in alloc; 0u8; 131_136]?;
+    let mut output = vec![in alloc; 0u8; 139_264]?;
+    let mut input = BufReader::new(alloc, rt.reader())?;
+    let mut printer = BufWriter::new(alloc, io::writer(&rt))?;
+    stream(
+        &mut input,
+        &mut printer,
+        &mut space,
+        &mut cells,
+        &mut output,
+    )?;
+    printer.flush()
 }

@@ -1,6 +1,8 @@
 // The patches of an image: a record each, with a place and cells.
 use crate::{header, slices};
 use base::byte_at;
+use std::io;
+use std::io::Read;
 
 // Puts a record's cells into the image at its place; where one would lie behind the end the image stays as it is.
 fn put(record: &[u8], image: &mut [u8]) {
@@ -10,17 +12,17 @@ fn put(record: &[u8], image: &mut [u8]) {
 }
 
 // Reads a patch, and puts it.
-fn next(image: &mut [u8]) {
+fn next<R: Read>(input: &mut R, image: &mut [u8]) -> io::Result<()> {
     let mut record = [0u8; 64];
-    io::read_full(0, &mut record);
+    run_stream::read_full(input, &mut record)?;
     put(&record, image);
+    Ok(())
 }
 
 // Reads so many patches, and puts each in its turn.
-pub fn read(count: usize, image: &mut [u8]) {
-    let mut left = count;
-    while 0 < left {
-        next(image);
-        left -= 1;
+pub fn read<R: Read>(input: &mut R, count: usize, image: &mut [u8]) -> io::Result<()> {
+    for _ in 0..count {
+        next(input, image)?;
     }
+    Ok(())
 }

@@ -22,19 +22,17 @@ pub fn lent(s: &mut [u8], n: usize) -> &mut [u8] {
 // The first byte becomes v, and each the one before it plus `step`, plus `more` too at each 256th.
 pub fn fill(s: &mut [u8], v: u8, step: u8, more: u8) {
     let mut value = v;
-    let mut i: usize = 0;
-    while i < s.len() {
+    for i in 0..s.len() {
         s[i] = value;
-        i += 1;
-        value = next(value, i, step, more);
+        value = next(value, i + 1, step, more);
     }
 }
 
 // What the byte at i becomes, behind one that became `value`.
 fn next(value: u8, i: usize, step: u8, more: u8) -> u8 {
-    let next = std::num::wrapping_add_u8(value, step);
+    let next = value.wrapping_add(step);
     if i % 256 == 0 {
-        return std::num::wrapping_add_u8(next, more);
+        return next.wrapping_add(more);
     }
     next
 }

@@ -1,4 +1,6 @@
 // The line of a text.
+use std::io;
+use std::io::Write;
 
 // What a line says beside the text's place in the stream.
 #[derive(Clone, Copy)]
@@ -9,16 +11,15 @@ pub struct Line {
 }
 
 // A word and a number.
-fn tell(word: &[u8], n: u64) {
-    io::write_all(1, word);
-    io::print_decimal(1, n);
+fn tell<W: Write>(printer: &mut W, word: &str, n: u64) -> io::Result<()> {
+    write!(printer, "{word}{n}")
 }
 
 // Prints the line of the text with this place in the stream, from 1.
-pub fn print(at: u64, l: Line) {
-    tell(b"hex ", at);
-    tell(b" number ", l.number);
-    tell(b" value ", l.value);
-    tell(b" output ", l.output);
-    io::write_all(1, b"\n");
+pub fn print<W: Write>(printer: &mut W, at: u64, l: Line) -> io::Result<()> {
+    tell(printer, "hex ", at)?;
+    tell(printer, " number ", l.number)?;
+    tell(printer, " value ", l.value)?;
+    tell(printer, " output ", l.output)?;
+    writeln!(printer)
 }

@@ -8,6 +8,8 @@ mod slices;
 use header::Header;
 use hex_rules::Converted;
 use line::Line;
+use std::io;
+use std::io::{BufReader, BufWriter, Read, Write};
 
 // Where the stream stands: how many texts came, and whether nothing is left.
 #[derive(Clone, Copy)]
@@ -17,11 +19,12 @@ struct Place {
 }
 
 // Reads the bytes of a text, with what fills them up to whole records.
-fn read_text(length: usize, space: &mut [u8]) {
+fn read_text<R: Read>(input: &mut R, length: usize, space: &mut [u8]) -> io::Result<()> {
     if length < 262_145 {
         let n = (length + 63) / 64 * 64;
-        io::read_full(0, slices::lent(space, n));
+        run_stream::read_full(input, slices::lent(space, n))?;
     }
+    Ok(())
 }
 
 // The line of what a text came to, with the whole lent output.
@@ -51,16 +54,23 @@ fn converted(h: Header, text: &[u8], output: &mut [u8]) -> Line {
 }
 
 // One text: its bytes are read, and its line is printed.
-fn handle(at: u64, h: Header, space: &mut [u8], output: &mut [u8]) {
-    read_text(h.length, space);
+fn handle<R: Read, W: Write>(
+    input: &mut R,
+    printer: &mut W,
+    at: u64,
+    h: Header,
+    space: &mut [u8],
+    output: &mut [u8],
+) -> io::Result<()> {
+    read_text(input, h.length, space)?;
     let text = slices::first(space, h.length);
     let l = converted(h, text, slices::lent(output, h.room));
-    line::print(at, l);
+    line::print(printer, at, l)
 }
 
 // One text more.
 fn counted(mut p: Place) -> Place {
-    p.at = std::num::wrapping_add_u64(p.at, 1);
+    p.at = p.at.wrapping_add(1);
     p
 }
 
@@ -71,32 +81,53 @@ fn ended(mut p: Place) -> Place {
 }
 
 // Reads a header, and handles its text.
-fn turn(p: Place, space: &mut [u8], output: &mut [u8]) -> Place {
+fn turn<R: Read, W: Write>(
+    input: &mut R,
+    printer: &mut W,
+    p: Place,
+    space: &mut [u8],
+    output: &mut [u8],
+) -> io::Result<Place> {
     let mut record = [0u8; 64];
-    let n = io::read_full(0, &mut record);
+    let n = run_stream::read_full(input, &mut record)?;
     if n < 64 {
-        return ended(p);
+        return Ok(ended(p));
     }
     let next = counted(p);
-    handle(next.at, header::read(&record), space, output);
-    next
+    handle(
+        input,
+        printer,
+        next.at,
+        header::read(&record),
+        space,
+        output,
+    )?;
+    Ok(next)
 }
 
 // The whole stream. A loop has to end, so turns are counted, up to a number that no stream uses up.
-fn stream(space: &mut [u8], output: &mut [u8]) {
+fn stream<R: Read, W: Write>(
+    input: &mut R,
+    printer: &mut W,
+    space: &mut [u8],
+    output: &mut [u8],
+) -> io::Result<()> {
     let mut p = Place { at: 0, done: false };
-    let mut turns: u32 = 0;
-    while turns < 0xFFFFFFFF {
+    for _ in 0..0xFFFFFFFFu32 {
         if p.done {
-            return;
+            return Ok(());
         }
-        p = turn(p, space, output);
-        turns += 1;
+        p = turn(input, printer, p, space, output)?;
     }
+    Ok(())
 }
 
-fn main() {
-    let mut space = [0u8; 262_144];
-    let mut output = [0u8; 70_000];
-    stream(&mut space, &mut output);
+fn main(rt: HostRuntime) -> io::Result<()> {
+    let alloc = rt.alloc();
+    let mut space = vec![in alloc; 0u8; 262_144]?;
+    let mut output = vec![in alloc; 0u8; 70_000]?;
+    let mut input = BufReader::new(alloc, rt.reader())?;
+    let mut printer = BufWriter::new(alloc, io::writer(&rt))?;
+    stream(&mut input, &mut printer, &mut space, &mut output)?;
+    printer.flush()
 }

@@ -18,9 +18,7 @@ pub fn lent(s: &mut [u8], n: usize) -> &mut [u8] {
 
 // All bytes become v.
 pub fn fill(s: &mut [u8], v: u8) {
-    let mut i: usize = 0;
-    while i < s.len() {
-        s[i] = v;
-        i += 1;
+    for x in s.iter_mut() {
+        *x = v;
     }
 }

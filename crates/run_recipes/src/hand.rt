@@ -46,10 +46,8 @@ fn byte_on_uart(h: Handed, byte: u8, flash: &mut [u8], eeprom: &mut [u8]) -> Han
 // The 15 bytes of a wrapped frame, one by one.
 fn bytes_on_uart(h: Handed, bytes: &[u8; 15], flash: &mut [u8], eeprom: &mut [u8]) -> Handed {
     let mut now = h;
-    let mut i: usize = 0;
-    while i < 15 {
-        now = byte_on_uart(now, bytes[i], flash, eeprom);
-        i += 1;
+    for byte in bytes {
+        now = byte_on_uart(now, *byte, flash, eeprom);
     }
     now
 }
@@ -84,10 +82,8 @@ pub fn frames(
 ) -> Handed {
     let mut now = h;
     let most = slices::least(count, 36_829);
-    let mut i: usize = 0;
-    while i < most {
+    for i in 0..most {
         now = frame(now, port, slices::part(output, 12 * i, 12), flash, eeprom);
-        i += 1;
     }
     now
 }

@@ -1,4 +1,6 @@
 // The line of a recipe.
+use std::io;
+use std::io::Write;
 
 // What a line says beside the recipe's place in the stream.
 #[derive(Clone, Copy)]
@@ -13,20 +15,19 @@ pub struct Line {
 }
 
 // A word and a number.
-fn tell(word: &[u8], n: u64) {
-    io::write_all(1, word);
-    io::print_decimal(1, n);
+fn tell<W: Write>(printer: &mut W, word: &str, n: u64) -> io::Result<()> {
+    write!(printer, "{word}{n}")
 }
 
 // Prints the line of the recipe with this place in the stream, from 1.
-pub fn print(at: u64, l: Line) {
-    tell(b"recipe ", at);
-    tell(b" number ", l.number);
-    tell(b" place ", l.place);
-    tell(b" frames ", l.frames);
-    tell(b" answers ", l.answers);
-    tell(b" flash ", l.flash);
-    tell(b" eeprom ", l.eeprom);
-    tell(b" node ", l.node);
-    io::write_all(1, b"\n");
+pub fn print<W: Write>(printer: &mut W, at: u64, l: Line) -> io::Result<()> {
+    tell(printer, "recipe ", at)?;
+    tell(printer, " number ", l.number)?;
+    tell(printer, " place ", l.place)?;
+    tell(printer, " frames ", l.frames)?;
+    tell(printer, " answers ", l.answers)?;
+    tell(printer, " flash ", l.flash)?;
+    tell(printer, " eeprom ", l.eeprom)?;
+    tell(printer, " node ", l.node)?;
+    writeln!(printer)
 }

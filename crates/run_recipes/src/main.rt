@@ -12,6 +12,8 @@ mod start;
 
 use base::byte_at;
 use header::Header;
+use std::io;
+use std::io::{BufReader, BufWriter, Read, Write};
 
 // Where the stream stands: how many recipes came, whether the old way after noise is meant where nothing is said of it, and whether nothing
 // is left.
@@ -23,15 +25,18 @@ struct Place {
 }
 
 // Reads the bytes of a recipe, with what fills them up to whole records.
-fn read_recipe(length: usize, space: &mut [u8]) {
+fn read_recipe<R: Read>(input: &mut R, length: usize, space: &mut [u8]) -> io::Result<()> {
     if length < 139_265 {
         let n = (length + 63) / 64 * 64;
-        io::read_full(0, slices::lent(space, n));
+        run_stream::read_full(input, slices::lent(space, n))?;
     }
+    Ok(())
 }
 
 // One recipe: its bytes are read, and its line is printed.
-fn handle(
+fn handle<R: Read, W: Write>(
+    input: &mut R,
+    printer: &mut W,
     at: u64,
     h: Header,
     space: &mut [u8],
@@ -39,17 +44,17 @@ fn handle(
     serial: &mut [u8],
     flash: &mut [u8],
     eeprom: &mut [u8],
-) {
-    read_recipe(h.length, space);
-    let input = slices::part(space, 0, h.length);
+) -> io::Result<()> {
+    read_recipe(input, h.length, space)?;
+    let recipe = slices::part(space, 0, h.length);
     let out = slices::lent(output, h.room);
-    let l = apply::recipe(h, input, out, serial, flash, eeprom);
-    line::print(at, l);
+    let l = apply::recipe(h, recipe, out, serial, flash, eeprom);
+    line::print(printer, at, l)
 }
 
 // One recipe more.
 fn counted(mut p: Place) -> Place {
-    p.at = std::num::wrapping_add_u64(p.at, 1);
+    p.at = p.at.wrapping_add(1);
     p
 }
 
@@ -66,24 +71,28 @@ fn ended(mut p: Place) -> Place {
 }
 
 // Reads a header, and handles its recipe; or a record that says which way is meant.
-fn turn(
+fn turn<R: Read, W: Write>(
+    input: &mut R,
+    printer: &mut W,
     p: Place,
     space: &mut [u8],
     output: &mut [u8],
     serial: &mut [u8],
     flash: &mut [u8],
     eeprom: &mut [u8],
-) -> Place {
+) -> io::Result<Place> {
     let mut record = [0u8; 64];
-    let n = io::read_full(0, &mut record);
+    let n = run_stream::read_full(input, &mut record)?;
     if n < 64 {
-        return ended(p);
+        return Ok(ended(p));
     }
     if byte_at(&record, 0) == 0x21 {
-        return meaning(p, 1 < byte_at(&record, 1));
+        return Ok(meaning(p, 1 < byte_at(&record, 1)));
     }
     let next = counted(p);
     handle(
+        input,
+        printer,
         next.at,
         header::read(&record, p.old),
         space,
@@ -91,44 +100,51 @@ fn turn(
         serial,
         flash,
         eeprom,
-    );
-    next
+    )?;
+    Ok(next)
 }
 
 // The whole stream. A loop has to end, so turns are counted, up to a number that no stream uses up.
-fn stream(
+fn stream<R: Read, W: Write>(
+    input: &mut R,
+    printer: &mut W,
     space: &mut [u8],
     output: &mut [u8],
     serial: &mut [u8],
     flash: &mut [u8],
     eeprom: &mut [u8],
-) {
+) -> io::Result<()> {
     let mut p = Place {
         at: 0,
         old: false,
         done: false,
     };
-    let mut turns: u32 = 0;
-    while turns < 0xFFFFFFFF {
+    for _ in 0..0xFFFFFFFFu32 {
         if p.done {
-            return;
+            return Ok(());
         }
-        p = turn(p, space, output, serial, flash, eeprom);
-        turns += 1;
+        p = turn(input, printer, p, space, output, serial, flash, eeprom)?;
     }
+    Ok(())
 }
 
-fn main() {
-    let mut space = [0u8; 139_264];
-    let mut output = [0u8; 441_948];
-    let mut serial = [0u8; 552_435];
-    let mut flash = [0u8; 65536];
-    let mut eeprom = [0u8; 1024];
+fn main(rt: HostRuntime) -> io::Result<()> {
+    let alloc = rt.alloc();
+    let mut space = vec![in alloc; 0u8; 139_264]?;
+    let mut output = vec![in alloc; 0u8; 441_948]?;
+    let mut serial = vec![in alloc; 0u8; 552_435]?;
+    let mut flash = vec![in alloc; 0u8; 65536]?;
+    let mut eeprom = vec![in alloc; 0u8; 1024]?;
+    let mut input = BufReader::new(alloc, rt.reader())?;
+    let mut printer = BufWriter::new(alloc, io::writer(&rt))?;
     stream(
+        &mut input,
+        &mut printer,
         &mut space,
         &mut output,
         &mut serial,
         &mut flash,
         &mut eeprom,
-    );
+    )?;
+    printer.flush()
 }

@@ -13,10 +13,8 @@ fn wrap_at(frame: &[u8], serial: &mut [u8], at: usize) {
 // The first `count` frames of an output, wrapped one behind the other; answers how many bytes those are. No recipe has more than 36,829.
 fn wrap_all(output: &[u8], count: usize, serial: &mut [u8]) -> usize {
     let most = slices::least(count, 36_829);
-    let mut i: usize = 0;
-    while i < most {
+    for i in 0..most {
         wrap_at(slices::part(output, 12 * i, 12), serial, 15 * i);
-        i += 1;
     }
     15 * most
 }

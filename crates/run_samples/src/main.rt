@@ -10,9 +10,14 @@ mod print;
 mod recipe_lines;
 mod recipe_vectors;
 
+use std::io;
+use std::io::{BufWriter, Write};
+
 // Frames, memories, recipes.
-fn main() {
-    frame_vectors::run();
-    memory_vectors::run();
-    recipe_vectors::run();
+fn main(rt: HostRuntime) -> io::Result<()> {
+    let mut printer = BufWriter::new(rt.alloc(), io::writer(&rt))?;
+    frame_vectors::run(&mut printer)?;
+    memory_vectors::run(&mut printer)?;
+    recipe_vectors::run(&mut printer)?;
+    printer.flush()
 }

@@ -1,47 +1,65 @@
 // Lines for the address rule, the write, the rows shown and the sums.
 use crate::print;
 use memory_address::{Address, Ruled};
+use std::io;
+use std::io::Write;
 
 // Where a legal command works.
-fn memory(cells: Address) {
+fn memory<W: Write>(printer: &mut W, cells: Address) -> io::Result<()> {
     match cells {
-        Address::Flash(_) => print::text(b" is legal in FLASH\n"),
-        Address::Eeprom(_) => print::text(b" is legal in EEPROM\n"),
+        Address::Flash(_) => print::text(printer, " is legal in FLASH\n"),
+        Address::Eeprom(_) => print::text(printer, " is legal in EEPROM\n"),
     }
 }
 
 // What the address rule says of a command at a number; `name` has the command's name in it.
-pub fn legal(name: &[u8], command: u32, at: u32) {
-    print::hex(name, at);
+pub fn legal<W: Write>(printer: &mut W, name: &str, command: u32, at: u32) -> io::Result<()> {
+    print::hex(printer, name, at)?;
     match memory_address::rule(at, command) {
-        Ruled::Legal(cells) => memory(cells),
-        Ruled::Illegal => print::text(b" is illegal\n"),
+        Ruled::Legal(cells) => memory(printer, cells),
+        Ruled::Illegal => print::text(printer, " is illegal\n"),
     }
 }
 
 // Bytes written over eight cells of FLASH.
-pub fn written(name: &[u8], new: &[u8], cells: &mut [u8]) {
-    print::bytes(name, new);
-    print::bytes(b" written over", cells);
+pub fn written<W: Write>(
+    printer: &mut W,
+    name: &str,
+    new: &[u8],
+    cells: &mut [u8],
+) -> io::Result<()> {
+    print::bytes(printer, name, new)?;
+    print::bytes(printer, " written over", cells)?;
     memory_cells::write_flash_cells(cells, new);
-    print::bytes(b" leaves", cells);
-    print::text(b"\n");
+    print::bytes(printer, " leaves", cells)?;
+    print::text(printer, "\n")
 }
 
 // The row at an address, with the number that goes with it.
-pub fn shown<'a>(name: &[u8], flash: &'a [u8], eeprom: &'a [u8], at: u32) {
+pub fn shown<'a, W: Write>(
+    printer: &mut W,
+    name: &str,
+    flash: &'a [u8],
+    eeprom: &'a [u8],
+    at: u32,
+) -> io::Result<()> {
     let number = memory_row::show_number(flash, eeprom, at);
-    print::hex(name, at);
-    print::answer(number, b", cells", memory_row::show_row(flash, eeprom, at));
+    print::hex(printer, name, at)?;
+    print::answer(
+        printer,
+        number,
+        ", cells",
+        memory_row::show_row(flash, eeprom, at),
+    )
 }
 
 // Both sums of a FLASH, and whether its firmware starts.
-pub fn sums(name: &[u8], flash: &[u8]) {
-    print::hex(name, memory_sum::firmware_sum(flash));
-    print::hex(b", stored ", memory_sum::stored_sum(flash));
+pub fn sums<W: Write>(printer: &mut W, name: &str, flash: &[u8]) -> io::Result<()> {
+    print::hex(printer, name, memory_sum::firmware_sum(flash))?;
+    print::hex(printer, ", stored ", memory_sum::stored_sum(flash))?;
     if memory_start::firmware_starts(flash) {
-        print::text(b", start\n");
+        print::text(printer, ", start\n")
     } else {
-        print::text(b", no start\n");
+        print::text(printer, ", no start\n")
     }
 }

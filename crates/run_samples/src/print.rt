@@ -1,8 +1,10 @@
 // What the lines are made of: text, numbers as document 01 writes them, and bytes as upper-case pairs.
+use std::io;
+use std::io::Write;
 
 // Text as it stands.
-pub fn text(bytes: &[u8]) {
-    io::write_all(1, bytes);
+pub fn text<W: Write>(printer: &mut W, words: &str) -> io::Result<()> {
+    printer.write_all(words.as_bytes())
 }
 
 // The digit for the lower four bits.
@@ -15,63 +17,62 @@ fn digit(bits: u8) -> u8 {
 }
 
 // A byte as two digits.
-fn pair(byte: u8) {
+fn pair<W: Write>(printer: &mut W, byte: u8) -> io::Result<()> {
     let digits = [digit(byte / 16), digit(byte)];
-    io::write_all(1, &digits);
+    printer.write_all(&digits)
 }
 
 // A blank.
-fn blank() {
-    text(b" ");
+fn blank<W: Write>(printer: &mut W) -> io::Result<()> {
+    text(printer, " ")
 }
 
 // Each byte as two digits, with a blank in front.
-fn pairs(bytes: &[u8]) {
-    let mut i: usize = 0;
-    while i < bytes.len() {
-        blank();
-        pair(bytes[i]);
-        i += 1;
+fn pairs<W: Write>(printer: &mut W, bytes: &[u8]) -> io::Result<()> {
+    for byte in bytes {
+        blank(printer)?;
+        pair(printer, *byte)?;
     }
+    Ok(())
 }
 
 // A word, and the bytes that it is about.
-pub fn bytes(word: &[u8], all: &[u8]) {
-    text(word);
-    pairs(all);
+pub fn bytes<W: Write>(printer: &mut W, word: &str, all: &[u8]) -> io::Result<()> {
+    text(printer, word)?;
+    pairs(printer, all)
 }
 
 // A word, and a number in decimal.
-pub fn decimal(word: &[u8], number: u64) {
-    text(word);
-    io::print_decimal(1, number);
+pub fn decimal<W: Write>(printer: &mut W, word: &str, number: u64) -> io::Result<()> {
+    text(printer, word)?;
+    write!(printer, "{number}")
 }
 
 // A word, and an address or a sum: 0x and six digits, or eight where six do not hold it.
-pub fn hex(word: &[u8], number: u32) {
-    text(word);
-    text(b"0x");
+pub fn hex<W: Write>(printer: &mut W, word: &str, number: u32) -> io::Result<()> {
+    text(printer, word)?;
+    text(printer, "0x")?;
     if number > 0xFFFFFF {
-        pair((number / 16_777_216) as u8);
+        pair(printer, (number / 16_777_216) as u8)?;
     }
-    pair((number / 65_536 % 256) as u8);
-    pair((number / 256 % 256) as u8);
-    pair((number % 256) as u8);
+    pair(printer, (number / 65_536 % 256) as u8)?;
+    pair(printer, (number / 256 % 256) as u8)?;
+    pair(printer, (number % 256) as u8)
 }
 
 // A word, and an identifier: 0x and eight digits.
-pub fn identifier(word: &[u8], number: u32) {
-    text(word);
-    text(b"0x");
-    pair((number / 16_777_216) as u8);
-    pair((number / 65_536 % 256) as u8);
-    pair((number / 256 % 256) as u8);
-    pair((number % 256) as u8);
+pub fn identifier<W: Write>(printer: &mut W, word: &str, number: u32) -> io::Result<()> {
+    text(printer, word)?;
+    text(printer, "0x")?;
+    pair(printer, (number / 16_777_216) as u8)?;
+    pair(printer, (number / 65_536 % 256) as u8)?;
+    pair(printer, (number / 256 % 256) as u8)?;
+    pair(printer, (number % 256) as u8)
 }
 
 // What a call answers, and what stands in its output afterwards.
-pub fn answer(number: u8, word: &[u8], output: &[u8]) {
-    decimal(b" gives ", number as u64);
-    bytes(word, output);
-    text(b"\n");
+pub fn answer<W: Write>(printer: &mut W, number: u8, word: &str, output: &[u8]) -> io::Result<()> {
+    decimal(printer, " gives ", number as u64)?;
+    bytes(printer, word, output)?;
+    text(printer, "\n")
 }

@@ -1,58 +1,64 @@
 // The closing line of a session.
 use crate::session::{CAN_FRAMES, COUNTS, RESTARTS, Session, UART_BYTES, UART_PIECES};
+use std::io;
+use std::io::Write;
 
 // A word and a number.
-fn tell(word: &[u8], n: u64) {
-    io::write_all(1, word);
-    io::print_decimal(1, n);
+fn tell<W: Write>(printer: &mut W, word: &str, n: u64) -> io::Result<()> {
+    write!(printer, "{word}{n}")
 }
 
 // A word, and the counts from `from` up to, not including, `to`.
-fn tell_counts(word: &[u8], counts: &[u64; COUNTS], from: usize, to: usize) {
-    io::write_all(1, word);
-    let mut i = from;
-    while i < to {
-        tell_count(counts, i);
-        i += 1;
+fn tell_counts<W: Write>(
+    printer: &mut W,
+    word: &str,
+    counts: &[u64; COUNTS],
+    from: usize,
+    to: usize,
+) -> io::Result<()> {
+    write!(printer, "{word}")?;
+    for i in from..to {
+        tell_count(printer, counts, i)?;
     }
+    Ok(())
 }
 
-fn tell_count(counts: &[u64; COUNTS], i: usize) {
+fn tell_count<W: Write>(printer: &mut W, counts: &[u64; COUNTS], i: usize) -> io::Result<()> {
     if i < COUNTS {
-        tell(b" ", counts[i]);
+        tell(printer, " ", counts[i])?;
     }
+    Ok(())
 }
 
 // Whether a piece was handed over.
 fn any_piece(counts: &[u64; COUNTS]) -> bool {
-    let mut i = UART_PIECES;
-    while i < COUNTS {
+    for i in UART_PIECES..COUNTS {
         if counts[i] != 0 {
             return true;
         }
-        i += 1;
     }
     false
 }
 
 // The counts of pieces, where one was handed over.
-fn tell_pieces(counts: &[u64; COUNTS]) {
+fn tell_pieces<W: Write>(printer: &mut W, counts: &[u64; COUNTS]) -> io::Result<()> {
     if any_piece(counts) {
-        tell_counts(b" piece", counts, UART_PIECES, COUNTS);
+        tell_counts(printer, " piece", counts, UART_PIECES, COUNTS)?;
     }
+    Ok(())
 }
 
 // Prints the closing line.
-pub fn close(s: Session, flash: &[u8], eeprom: &[u8]) {
+pub fn close<W: Write>(printer: &mut W, s: Session, flash: &[u8], eeprom: &[u8]) -> io::Result<()> {
     let counts = s.counts;
-    tell(b"session ", s.number);
-    tell(b" events ", s.events);
-    tell(b" digest ", s.digest);
-    tell(b" flash ", run_digest::with_bytes(0, flash));
-    tell(b" eeprom ", run_digest::with_bytes(0, eeprom));
-    tell_counts(b" restart", &counts, RESTARTS, CAN_FRAMES);
-    tell_counts(b" can", &counts, CAN_FRAMES, UART_BYTES);
-    tell_counts(b" uart", &counts, UART_BYTES, UART_PIECES);
-    tell_pieces(&counts);
-    io::write_all(1, b"\n");
+    tell(printer, "session ", s.number)?;
+    tell(printer, " events ", s.events)?;
+    tell(printer, " digest ", s.digest)?;
+    tell(printer, " flash ", run_digest::with_bytes(0, flash))?;
+    tell(printer, " eeprom ", run_digest::with_bytes(0, eeprom))?;
+    tell_counts(printer, " restart", &counts, RESTARTS, CAN_FRAMES)?;
+    tell_counts(printer, " can", &counts, CAN_FRAMES, UART_BYTES)?;
+    tell_counts(printer, " uart", &counts, UART_BYTES, UART_PIECES)?;
+    tell_pieces(printer, &counts)?;
+    writeln!(printer)
 }

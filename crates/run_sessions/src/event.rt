@@ -4,13 +4,21 @@ use crate::{closing, handed, pieces, session, slices, telling};
 use base::byte_at;
 use memory_address::{Address, Ruled};
 use node_rules::{Answer, Choices, Restarted, UartAnswer};
+use std::io;
+use std::io::Write;
 
 // Restart, by pin, self-test and way.
-fn restart(s: Session, rec: &[u8], flash: &[u8], eeprom: &[u8]) -> Session {
+fn restart<W: Write>(
+    printer: &mut W,
+    s: Session,
+    rec: &[u8],
+    flash: &[u8],
+    eeprom: &[u8],
+) -> io::Result<Session> {
     let f = slices::part(flash, 0, s.flash);
     let e = slices::part(eeprom, 0, s.eeprom);
     let r = restart_by(s, rec, f, e);
-    restarted(r, s)
+    restarted(printer, r, s)
 }
 
 // A plain restart where nothing is said of the way and the default is meant; else the way is chosen.
@@ -27,79 +35,118 @@ fn restart_by(s: Session, rec: &[u8], flash: &[u8], eeprom: &[u8]) -> Restarted 
     node::restart_with(node, choices, passed, flash, eeprom)
 }
 
-fn restarted(r: Restarted, s: Session) -> Session {
+fn restarted<W: Write>(printer: &mut W, r: Restarted, s: Session) -> io::Result<Session> {
     let node = r.node;
     let next = session::counted(s, RESTARTS + r.number as usize);
-    telling::write_node(next, &[0x01, r.number], &[], node)
+    telling::write_node(printer, next, &[0x01, r.number], &[], node)
 }
 
 // A CAN frame, of any length up to 1,024 bytes: the record's, then 0x55.
-fn can(s: Session, rec: &[u8], flash: &mut [u8], eeprom: &mut [u8]) -> Session {
+fn can<W: Write>(
+    printer: &mut W,
+    s: Session,
+    rec: &[u8],
+    flash: &mut [u8],
+    eeprom: &mut [u8],
+) -> io::Result<Session> {
     let mut space = [0x55u8; 1024];
-    can_in(s, rec, &mut space, flash, eeprom)
+    can_in(printer, s, rec, &mut space, flash, eeprom)
 }
 
-fn can_in(
+fn can_in<W: Write>(
+    printer: &mut W,
     s: Session,
     rec: &[u8],
     space: &mut [u8],
     flash: &mut [u8],
     eeprom: &mut [u8],
-) -> Session {
+) -> io::Result<Session> {
     slices::append(space, 0, slices::part(rec, 3, 61));
     let frame = slices::part(space, 0, handed::short(rec, 1) as usize);
-    can_frame(s, frame, flash, eeprom)
+    can_frame(printer, s, frame, flash, eeprom)
 }
 
-fn can_frame(s: Session, frame: &[u8], flash: &mut [u8], eeprom: &mut [u8]) -> Session {
+fn can_frame<W: Write>(
+    printer: &mut W,
+    s: Session,
+    frame: &[u8],
+    flash: &mut [u8],
+    eeprom: &mut [u8],
+) -> io::Result<Session> {
     let node = s.node;
     let f = slices::lent(flash, s.flash);
     let e = slices::lent(eeprom, s.eeprom);
     let a = node::can_frame(node, frame, f, e);
-    can_answered(a, s)
+    can_answered(printer, a, s)
 }
 
-fn can_answered(a: Answer, s: Session) -> Session {
-    can_told(a, session::counted(s, CAN_FRAMES + a.number as usize))
+fn can_answered<W: Write>(printer: &mut W, a: Answer, s: Session) -> io::Result<Session> {
+    can_told(
+        printer,
+        a,
+        session::counted(s, CAN_FRAMES + a.number as usize),
+    )
 }
 
-fn can_told(a: Answer, s: Session) -> Session {
+fn can_told<W: Write>(printer: &mut W, a: Answer, s: Session) -> io::Result<Session> {
     let replies = a.replies;
     let node = a.node;
-    telling::write_node(s, &[0x02, a.number, a.count], &replies, node)
+    telling::write_node(printer, s, &[0x02, a.number, a.count], &replies, node)
 }
 
 // A UART byte.
-fn uart(s: Session, rec: &[u8], flash: &mut [u8], eeprom: &mut [u8]) -> Session {
+fn uart<W: Write>(
+    printer: &mut W,
+    s: Session,
+    rec: &[u8],
+    flash: &mut [u8],
+    eeprom: &mut [u8],
+) -> io::Result<Session> {
     let node = s.node;
     let f = slices::lent(flash, s.flash);
     let e = slices::lent(eeprom, s.eeprom);
     let a = node::uart_byte(node, byte_at(rec, 1), f, e);
-    uart_answered(a, s)
+    uart_answered(printer, a, s)
 }
 
-fn uart_answered(a: UartAnswer, s: Session) -> Session {
-    uart_told(a, session::counted(s, UART_BYTES + a.number as usize))
+fn uart_answered<W: Write>(printer: &mut W, a: UartAnswer, s: Session) -> io::Result<Session> {
+    uart_told(
+        printer,
+        a,
+        session::counted(s, UART_BYTES + a.number as usize),
+    )
 }
 
-fn uart_told(a: UartAnswer, s: Session) -> Session {
+fn uart_told<W: Write>(printer: &mut W, a: UartAnswer, s: Session) -> io::Result<Session> {
     let replies = a.replies;
     let node = a.node;
-    telling::write_node(s, &[0x03, a.number, a.count], &replies, node)
+    telling::write_node(printer, s, &[0x03, a.number, a.count], &replies, node)
 }
 
 // A row of the lent memories.
-fn show<'a>(s: Session, rec: &[u8], flash: &'a [u8], eeprom: &'a [u8]) -> Session {
+fn show<'a, W: Write>(
+    printer: &mut W,
+    s: Session,
+    rec: &[u8],
+    flash: &'a [u8],
+    eeprom: &'a [u8],
+) -> io::Result<Session> {
     let f = slices::part(flash, 0, s.flash);
     let e = slices::part(eeprom, 0, s.eeprom);
-    show_lent(s, handed::number(rec, 1), f, e)
+    show_lent(printer, s, handed::number(rec, 1), f, e)
 }
 
-fn show_lent<'a>(s: Session, at: u32, flash: &'a [u8], eeprom: &'a [u8]) -> Session {
+fn show_lent<'a, W: Write>(
+    printer: &mut W,
+    s: Session,
+    at: u32,
+    flash: &'a [u8],
+    eeprom: &'a [u8],
+) -> io::Result<Session> {
     let number = memory_row::show_number(flash, eeprom, at);
     let row = memory_row::show_row(flash, eeprom, at);
     let length = (row.len() % 256) as u8;
-    telling::write(s, &[0x04, number, length], row)
+    telling::write(printer, s, &[0x04, number, length], row)
 }
 
 // From this event on so many cells of each memory are lent, or as many as there are.
@@ -128,17 +175,22 @@ fn begin(s: Session, rec: &[u8], flash: &mut [u8], eeprom: &mut [u8]) -> Session
     session::begun(s, handed::six(rec, 3), handed::short(rec, 9), tells)
 }
 
-fn end(s: Session, flash: &[u8], eeprom: &[u8]) -> Session {
-    closing::close(s, flash, eeprom);
-    s
+fn end<W: Write>(printer: &mut W, s: Session, flash: &[u8], eeprom: &[u8]) -> io::Result<Session> {
+    closing::close(printer, s, flash, eeprom)?;
+    Ok(s)
 }
 
 // Identifier and data to a frame.
-fn to_hapcan(s: Session, rec: &[u8], output: &mut [u8]) -> Session {
+fn to_hapcan<W: Write>(
+    printer: &mut W,
+    s: Session,
+    rec: &[u8],
+    output: &mut [u8],
+) -> io::Result<Session> {
     let input = slices::part(rec, 7, handed::length(rec, 5));
     let out = slices::lent(output, handed::length(rec, 6));
     let number = frame_can::to_hapcan(handed::number(rec, 1), input, out);
-    telling::write(s, &[0x0A, number], out)
+    telling::write(printer, s, &[0x0A, number], out)
 }
 
 // The answer's bytes before the output: kind, number, and the identifier's four.
@@ -154,96 +206,131 @@ fn identified(number: u8, identifier: u32) -> [u8; 6] {
 }
 
 // A frame to identifier and data.
-fn to_can(s: Session, rec: &[u8], output: &mut [u8]) -> Session {
+fn to_can<W: Write>(
+    printer: &mut W,
+    s: Session,
+    rec: &[u8],
+    output: &mut [u8],
+) -> io::Result<Session> {
     let input = slices::part(rec, 3, handed::length(rec, 1));
     let out = slices::lent(output, handed::length(rec, 2));
     let r = frame_can::to_can(input, out);
     let head = identified(r.number, r.identifier);
-    telling::write(s, &head, out)
+    telling::write(printer, s, &head, out)
 }
 
-fn wrap(s: Session, rec: &[u8], output: &mut [u8]) -> Session {
+fn wrap<W: Write>(
+    printer: &mut W,
+    s: Session,
+    rec: &[u8],
+    output: &mut [u8],
+) -> io::Result<Session> {
     let input = slices::part(rec, 3, handed::length(rec, 1));
     let out = slices::lent(output, handed::length(rec, 2));
     let number = frame_uart::wrap(input, out);
-    telling::write(s, &[0x0C, number], out)
+    telling::write(printer, s, &[0x0C, number], out)
 }
 
-fn unwrap(s: Session, rec: &[u8], output: &mut [u8]) -> Session {
+fn unwrap<W: Write>(
+    printer: &mut W,
+    s: Session,
+    rec: &[u8],
+    output: &mut [u8],
+) -> io::Result<Session> {
     let input = slices::part(rec, 3, handed::length(rec, 1));
     let out = slices::lent(output, handed::length(rec, 2));
     let number = frame_uart::unwrap(input, out);
-    telling::write(s, &[0x0D, number], out)
+    telling::write(printer, s, &[0x0D, number], out)
 }
 
 // What the address rule says: its number, and which memory.
-fn rule(s: Session, rec: &[u8]) -> Session {
+fn rule<W: Write>(printer: &mut W, s: Session, rec: &[u8]) -> io::Result<Session> {
     let r = memory_address::rule(handed::number(rec, 1), handed::number(rec, 5));
     match r {
-        Ruled::Legal(a) => ruled(s, a),
-        Ruled::Illegal => telling::write(s, &[0x0E, 8, 2], &[]),
+        Ruled::Legal(a) => ruled(printer, s, a),
+        Ruled::Illegal => telling::write(printer, s, &[0x0E, 8, 2], &[]),
     }
 }
 
-fn ruled(s: Session, a: Address) -> Session {
+fn ruled<W: Write>(printer: &mut W, s: Session, a: Address) -> io::Result<Session> {
     match a {
-        Address::Flash(_) => telling::write(s, &[0x0E, 0, 0], &[]),
-        Address::Eeprom(_) => telling::write(s, &[0x0E, 0, 1], &[]),
+        Address::Flash(_) => telling::write(printer, s, &[0x0E, 0, 0], &[]),
+        Address::Eeprom(_) => telling::write(printer, s, &[0x0E, 0, 1], &[]),
     }
 }
 
 // A conversion, into a lent output filled with 0xEE.
-fn converted(s: Session, kind: u8, rec: &[u8]) -> Session {
+fn converted<W: Write>(printer: &mut W, s: Session, kind: u8, rec: &[u8]) -> io::Result<Session> {
     let mut output = [0xEEu8; 20];
     match kind {
-        0x0A => to_hapcan(s, rec, &mut output),
-        0x0B => to_can(s, rec, &mut output),
-        0x0C => wrap(s, rec, &mut output),
-        0x0D => unwrap(s, rec, &mut output),
-        _ => s,
+        0x0A => to_hapcan(printer, s, rec, &mut output),
+        0x0B => to_can(printer, s, rec, &mut output),
+        0x0C => wrap(printer, s, rec, &mut output),
+        0x0D => unwrap(printer, s, rec, &mut output),
+        _ => Ok(s),
     }
 }
 
 // An event that calls the node, or sets it.
-fn on_node(s: Session, kind: u8, rec: &[u8], flash: &mut [u8], eeprom: &mut [u8]) -> Session {
+fn on_node<W: Write>(
+    printer: &mut W,
+    s: Session,
+    kind: u8,
+    rec: &[u8],
+    flash: &mut [u8],
+    eeprom: &mut [u8],
+) -> io::Result<Session> {
     match kind {
-        0x01 => restart(s, rec, flash, eeprom),
-        0x02 => can(s, rec, flash, eeprom),
-        0x03 => uart(s, rec, flash, eeprom),
-        0x04 => show(s, rec, flash, eeprom),
-        0x05 => session::with_node(s, handed::node(rec, s.old)),
-        _ => s,
+        0x01 => restart(printer, s, rec, flash, eeprom),
+        0x02 => can(printer, s, rec, flash, eeprom),
+        0x03 => uart(printer, s, rec, flash, eeprom),
+        0x04 => show(printer, s, rec, flash, eeprom),
+        0x05 => Ok(session::with_node(s, handed::node(rec, s.old))),
+        _ => Ok(s),
     }
 }
 
 // An event of the session itself.
-fn on_session(s: Session, kind: u8, rec: &[u8], flash: &mut [u8], eeprom: &mut [u8]) -> Session {
+fn on_session<W: Write>(
+    printer: &mut W,
+    s: Session,
+    kind: u8,
+    rec: &[u8],
+    flash: &mut [u8],
+    eeprom: &mut [u8],
+) -> io::Result<Session> {
     match kind {
-        0x06 => lend(s, rec),
-        0x07 => poke(s, rec, flash, eeprom),
-        0x08 => begin(s, rec, flash, eeprom),
-        0x09 => end(s, flash, eeprom),
-        _ => s,
+        0x06 => Ok(lend(s, rec)),
+        0x07 => Ok(poke(s, rec, flash, eeprom)),
+        0x08 => Ok(begin(s, rec, flash, eeprom)),
+        0x09 => end(printer, s, flash, eeprom),
+        _ => Ok(s),
     }
 }
 
 // One record of the stream. A kind that is none of these is passed over.
-pub fn event(s: Session, rec: &[u8], flash: &mut [u8], eeprom: &mut [u8]) -> Session {
+pub fn event<W: Write>(
+    printer: &mut W,
+    s: Session,
+    rec: &[u8],
+    flash: &mut [u8],
+    eeprom: &mut [u8],
+) -> io::Result<Session> {
     let kind = byte_at(rec, 0);
     if kind < 0x06 {
-        return on_node(s, kind, rec, flash, eeprom);
+        return on_node(printer, s, kind, rec, flash, eeprom);
     }
     if kind < 0x0A {
-        return on_session(s, kind, rec, flash, eeprom);
+        return on_session(printer, s, kind, rec, flash, eeprom);
     }
     if kind == 0x0E {
-        return rule(s, rec);
+        return rule(printer, s, rec);
     }
     if kind == 0x11 {
-        return pieces::record(s, rec, flash, eeprom);
+        return pieces::record(printer, s, rec, flash, eeprom);
     }
     if kind == 0x12 {
-        return session::meaning(s, 1 < byte_at(rec, 1));
+        return Ok(session::meaning(s, 1 < byte_at(rec, 1)));
     }
-    converted(s, kind, rec)
+    converted(printer, s, kind, rec)
 }

@@ -51,7 +51,7 @@ pub fn start() -> Session {
 // The next session, with these fixed bytes and so many lines in full, whose answers tell the way or not.
 pub fn begun(s: Session, fixed: [u8; 6], full: u32, tells: bool) -> Session {
     Session {
-        number: std::num::wrapping_add_u64(s.number, 1),
+        number: s.number.wrapping_add(1),
         events: 0,
         digest: 0,
         full,
@@ -94,14 +94,14 @@ pub fn lending(mut s: Session, flash: usize, eeprom: usize) -> Session {
 pub fn counted(mut s: Session, i: usize) -> Session {
     if i < COUNTS {
         let c = s.counts[i];
-        s.counts[i] = std::num::wrapping_add_u64(c, 1);
+        s.counts[i] = c.wrapping_add(1);
     }
     s
 }
 
 // One more event that had an answer, with the digest after it, and one line in full less.
 pub fn answered(mut s: Session, digest: u64) -> Session {
-    s.events = std::num::wrapping_add_u64(s.events, 1);
+    s.events = s.events.wrapping_add(1);
     s.digest = digest;
     if 0 < s.full {
         s.full -= 1;

@@ -38,19 +38,17 @@ pub fn put(s: &mut [u8], i: usize, v: u8) {
 // The first cell becomes v, and each the one before it plus `step`, plus `more` too at each 256th.
 pub fn fill(s: &mut [u8], v: u8, step: u8, more: u8) {
     let mut value = v;
-    let mut i: usize = 0;
-    while i < s.len() {
+    for i in 0..s.len() {
         s[i] = value;
-        i += 1;
-        value = next(value, i, step, more);
+        value = next(value, i + 1, step, more);
     }
 }
 
 // What the cell at i becomes, behind a cell that became `value`.
 fn next(value: u8, i: usize, step: u8, more: u8) -> u8 {
-    let next = std::num::wrapping_add_u8(value, step);
+    let next = value.wrapping_add(step);
     if i % 256 == 0 {
-        return std::num::wrapping_add_u8(next, more);
+        return next.wrapping_add(more);
     }
     next
 }
@@ -58,10 +56,8 @@ fn next(value: u8, i: usize, step: u8, more: u8) -> u8 {
 // The bytes of the one go into the other from `at` on, as far as there is room; answers the place behind them.
 pub fn append(to: &mut [u8], at: usize, from: &[u8]) -> usize {
     let mut end = at;
-    let mut i: usize = 0;
-    while i < from.len() {
-        end = push(to, end, from[i]);
-        i += 1;
+    for b in from {
+        end = push(to, end, *b);
     }
     end
 }

@@ -2,6 +2,8 @@
 use crate::session::Session;
 use crate::{session, slices};
 use node_rules::{Node, Noise};
+use std::io;
+use std::io::Write;
 
 // The lower-case hex digit of a number below 16.
 fn digit(n: u8) -> u8 {
@@ -20,55 +22,66 @@ fn spell(text: &mut [u8], at: usize, b: u8) -> usize {
 // The hex digits of bytes; answers how many there are.
 fn spell_all(text: &mut [u8], bytes: &[u8]) -> usize {
     let mut end: usize = 0;
-    let mut i: usize = 0;
-    while i < bytes.len() {
-        end = spell(text, end, bytes[i]);
-        i += 1;
+    for b in bytes {
+        end = spell(text, end, *b);
     }
     end
 }
 
 // Prints bytes as a line of hex digits.
-fn print(bytes: &[u8]) {
+fn print<W: Write>(printer: &mut W, bytes: &[u8]) -> io::Result<()> {
     let mut space = [0u8; 256];
-    print_with(bytes, &mut space);
+    print_with(printer, bytes, &mut space)
 }
 
-fn print_with(bytes: &[u8], text: &mut [u8]) {
+fn print_with<W: Write>(printer: &mut W, bytes: &[u8], text: &mut [u8]) -> io::Result<()> {
     let digits = spell_all(text, bytes);
     let end = slices::push(text, digits, 10);
-    io::write_all(1, slices::part(text, 0, end));
+    printer.write_all(slices::part(text, 0, end))
 }
 
 // The session after an event with these answer bytes, the kind in front.
-fn finish(s: Session, bytes: &[u8]) -> Session {
+fn finish<W: Write>(printer: &mut W, s: Session, bytes: &[u8]) -> io::Result<Session> {
     if 0 < s.full {
-        print(bytes);
+        print(printer, bytes)?;
     }
-    session::answered(s, run_digest::with_bytes(s.digest, bytes))
+    Ok(session::answered(s, run_digest::with_bytes(s.digest, bytes)))
 }
 
 // The session after an event whose answer bytes, the kind in front, come in two pieces.
-pub fn write(s: Session, head: &[u8], last: &[u8]) -> Session {
-    write_four(s, head, last, &[], &[])
+pub fn write<W: Write>(
+    printer: &mut W,
+    s: Session,
+    head: &[u8],
+    last: &[u8],
+) -> io::Result<Session> {
+    write_four(printer, s, head, last, &[], &[])
 }
 
 // The session after an event whose answer bytes, the kind in front, come in four pieces.
-fn write_four(s: Session, head: &[u8], second: &[u8], third: &[u8], last: &[u8]) -> Session {
+fn write_four<W: Write>(
+    printer: &mut W,
+    s: Session,
+    head: &[u8],
+    second: &[u8],
+    third: &[u8],
+    last: &[u8],
+) -> io::Result<Session> {
     let mut space = [0u8; 128];
-    write_with(s, head, second, third, last, &mut space)
+    write_with(printer, s, head, second, third, last, &mut space)
 }
 
-fn write_with(
+fn write_with<W: Write>(
+    printer: &mut W,
     s: Session,
     head: &[u8],
     second: &[u8],
     third: &[u8],
     last: &[u8],
     line: &mut [u8],
-) -> Session {
+) -> io::Result<Session> {
     let end = in_line(head, second, third, last, line);
-    finish(s, slices::part(line, 0, end))
+    finish(printer, s, slices::part(line, 0, end))
 }
 
 // Four pieces one behind the other; answers where they end.
@@ -89,7 +102,13 @@ fn way_byte(way: Noise) -> u8 {
 
 // The session with this node after an event whose answer ends with it as NODE, the fifteenth held byte and, in a session that tells it, the
 // way.
-pub fn write_node(s: Session, head: &[u8], replies: &[u8], n: Node) -> Session {
+pub fn write_node<W: Write>(
+    printer: &mut W,
+    s: Session,
+    head: &[u8],
+    replies: &[u8],
+    n: Node,
+) -> io::Result<Session> {
     let receiver = n.receiver;
     let held = receiver.held;
     let choices = n.choices;
@@ -98,7 +117,7 @@ pub fn write_node(s: Session, head: &[u8], replies: &[u8], n: Node) -> Session {
     let record = run_record::bytes_of(n);
     let next = session::with_node(s, n);
     if s.tells {
-        return write_four(next, head, replies, &record, &last);
+        return write_four(printer, next, head, replies, &record, &last);
     }
-    write_four(next, head, replies, &record, &last[..1])
+    write_four(printer, next, head, replies, &record, &last[..1])
 }

@@ -1,6 +1,6 @@
 -- `frame_sum::sum_of` meets its contract: after i turns the sum is that of the first i bytes, modulo 256.
 -- Assumes nothing.
-use Rattle.std.proofs.Common.{◌≡◌, ℕ, ◌+◌, ◌-◌, ◌%◌, ◌<◌, List, length, get_or, take, refl, ◌∙◌, add-one, arith, take_all, rules}
+use Rattle.std.proofs.Common.{◌≡◌, ℕ, ◌+◌, ◌%◌, ◌<◌, List, length, get_or, take, refl, ◌∙◌, add-one, arith, take_all, rules}
 use native.Mathlib.Nat.{mod-add-mod}
 use Rattle.base.specs.Parts.{sum_of}
 use Rattle.base.proofs.Sums.{sum_next}

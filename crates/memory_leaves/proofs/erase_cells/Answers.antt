@@ -1,10 +1,9 @@
 -- `memory_cells::erase_cells` meets its contract: after i turns the first i cells are 0xFF and the rest as they were.
 -- Assumes nothing.
 use mathlib.Core.Path.{◌≡◌, ◌∙◌, refl, sym}
-use Prim.Native.Nat.{◌-◌}
 use borrow.Author.Tests.{eq-eqb, ne_eqb}
 use lib.ListN.{length, replicate, get_or-replicate, length-set}
-use Rattle.base.proofs.Stored.{mix, stored, mix_all}
+use Rattle.base.proofs.Stored.{stored, mix_all}
 use Rattle.memory_leaves.specs.Leaves.{erased_cells}
 use native.Mathlib.Omega.{arith}
 use Rattle.memory_leaves.proofs.erase_cells.Goals as goal

@@ -1,10 +1,9 @@
 -- `memory_cells::write_eeprom_cells` meets its contract: after i turns the first i cells are the new bytes and the rest as they were.
 -- Assumes nothing.
 use mathlib.Core.Path.{◌≡◌, ◌∙◌, refl}
-use Prim.Native.Nat.{◌-◌}
 use borrow.Author.Tests.{eq-eqb, ne_eqb}
 use lib.ListN.{length, length-set}
-use Rattle.base.proofs.Stored.{mix, stored, mix_all}
+use Rattle.base.proofs.Stored.{stored, mix_all}
 use Rattle.memory_leaves.specs.Leaves.{eeprom_cells_after}
 use native.Mathlib.Omega.{arith}
 use Rattle.memory_leaves.proofs.write_eeprom_cells.Goals as goal

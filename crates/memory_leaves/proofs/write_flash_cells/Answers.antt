@@ -1,11 +1,11 @@
 -- `memory_cells::write_flash_cells` meets its contract: after i turns the first i cells are combined and the rest as they were.
 -- Assumes nothing.
 use mathlib.Core.Path.{◌≡◌, ◌∙◌, refl, sym, ap}
-use Prim.Native.Nat.{ℕ, ◌-◌}
+use Prim.Native.Nat.{ℕ}
 use borrow.Author.Tests.{eq-eqb, ne_eqb}
 use lib.Bits.{bit_and}
 use lib.ListN.{length, length-set, get_or}
-use Rattle.base.proofs.Stored.{mix, stored, mix_all, mix_next}
+use Rattle.base.proofs.Stored.{stored, mix_all, mix_next}
 use Rattle.memory_leaves.specs.Leaves.{combined, flash_cells_after}
 use Rattle.memory_leaves.proofs.Combined.{length_combined, get_d_combined}
 use native.Mathlib.Omega.{arith}

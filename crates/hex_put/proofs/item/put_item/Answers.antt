@@ -1,0 +1,10 @@
+-- `hex_put::item::put_item` meets its contract: four bytes, and behind them those of the places.
+-- Assumes nothing.
+use mathlib.Core.Path.{refl}
+use Rattle.hex_put.proofs.Putting.{item_put_lem}
+use Rattle.hex_put.proofs.item.put_item.Goals as goal
+
+pub returns : goal.returns
+returns c =
+    let a = c.args in
+    item_put_lem a.output.now _ _ a.places.now _ a.at c.requires refl c.put.ensures c.put_low.ensures
