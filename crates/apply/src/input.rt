@@ -1,6 +1,9 @@
 // The recipe's bytes, from the file that the one argument names, or from standard input where it is `-`. What can't be read, and any other
 // arguments, get a message on standard error.
-use libc::{STDERR_FILENO, STDIN_FILENO};
+ghost use Rattle.std.specs.Prelude.{◌≡◌, ◌↔◌, IsTrue, Ok};
+
+use std::io;
+use std::io::Read;
 
 // What reading comes to: how many bytes stand at the start of the lent ones, or nothing where they can't be read.
 #[derive(Clone, Copy)]
@@ -9,64 +12,71 @@ pub enum Input {
     Unread,
 }
 
-// Whether nothing is left to be read. Neither a failure nor a byte that comes after one is an end.
-fn ended(fd: i32) -> bool {
-    let mut one = [0u8; 1];
-    libc::read(fd, &mut one) == 0
+// Whether nothing is left to be read, by what a read came to. A failure is no end.
+fn ended(read: &io::Result<usize>) -> bool
+    ensures { IsTrue result ↔ read.now ≡ Ok 0 }
+{
+    matches!(read, Ok(0))
 }
 
 // Reads until buf is full or the input ends, with a message under this name where a read fails.
-fn read_named(fd: i32, name: &[u8], buf: &mut [u8]) -> Input {
-    let n = io::read_full(fd, buf);
-    if n == buf.len() {
-        return Input::Bytes(n);
+fn read_named<R: Read>(rt: &HostRuntime, input: &mut R, name: &[u8], buf: &mut [u8]) -> Input {
+    let mut n = 0;
+    while n < buf.len() {
+        let read = input.read(&mut buf[n..]);
+        if ended(&read) {
+            return Input::Bytes(n);
+        }
+        match read {
+            Ok(more) => n += more,
+            Err(error) => {
+                program_io::fail(rt, name, error);
+                return Input::Unread;
+            }
+        }
     }
-    if ended(fd) {
-        return Input::Bytes(n);
-    }
-    os::fail(name);
-    Input::Unread
+    Input::Bytes(n)
 }
 
 // The same of the file of this name, with a message where it can't be opened.
-fn read_file(name: &[u8], buf: &mut [u8]) -> Input {
-    let fd = os::open_read(name);
-    if fd < 0 {
-        os::fail(name);
-        return Input::Unread;
+fn read_file(rt: &HostRuntime, name: &[u8], buf: &mut [u8]) -> Input {
+    match program_io::open_read(rt, name) {
+        Ok(mut file) => read_named(rt, &mut file, name, buf),
+        Err(error) => {
+            program_io::fail(rt, name, error);
+            Input::Unread
+        }
     }
-    let input = read_named(fd, name, buf);
-    libc::close(fd);
-    input
 }
 
 // Says how the program is called.
-fn usage() -> Input {
-    io::write_all(STDERR_FILENO, b"usage: apply FILE (- is standard input)\n");
+fn usage(rt: &HostRuntime) -> Input {
+    program_io::tell(rt, b"usage: apply FILE (- is standard input)\n");
     Input::Unread
 }
 
 // Reads what an argument names: `-` is standard input, and what else starts with it, as `--help`, names nothing.
-fn read_argument(name: &[u8], buf: &mut [u8]) -> Input {
+fn read_argument(rt: &HostRuntime, name: &[u8], buf: &mut [u8]) -> Input {
     if base::byte_at(name, 0) != b'-' {
-        return read_file(name, buf);
+        return read_file(rt, name, buf);
     }
     if name.len() > 1 {
-        return usage();
+        return usage(rt);
     }
-    read_named(STDIN_FILENO, b"standard input", buf)
+    read_named(rt, &mut rt.stdin(), b"standard input", buf)
 }
 
 // Reads as much of the recipe as buf holds, from what the one argument names.
-pub fn read_recipe(buf: &mut [u8]) -> Input {
-    if os::arg_count() != 2 {
-        return usage();
+pub fn read_recipe(rt: &HostRuntime, buf: &mut [u8]) -> Input {
+    if program_io::arg_count(rt) != 2 {
+        return usage(rt);
     }
-    let mut name = io::buffer();
-    let n = os::arg(1, &mut name);
-    if os::errno() != 0 {
-        os::fail(b"the file's name");
-        return Input::Unread;
+    let mut name = [0u8; 4096];
+    match program_io::arg(rt, 1, &mut name) {
+        Ok(n) => read_argument(rt, &name[..n], buf),
+        Err(error) => {
+            program_io::fail(rt, b"the file's name", error);
+            Input::Unread
+        }
     }
-    read_argument(&name[..n], buf)
 }

@@ -14,6 +14,7 @@ ghost use Rattle.node_rules.specs.Restart.{restart_step};
 use input::Input;
 use node_rules::{Node, Pin};
 use recipe::Translated;
+use std::process::ExitCode;
 
 // The longest recipe that is applied, in bytes.
 const MOST: usize = 4096;
@@ -38,7 +39,7 @@ fn restarted(flash: &[u8], eeprom: &[u8]) -> Node
 }
 
 // Applies the recipe to a blank node, whose cells are all 0xFF, and prints the answers or the refusal. The room does (proofs/HasRoom.antt).
-fn apply(recipe: &[u8])
+fn apply(rt: &HostRuntime, recipe: &[u8]) -> ExitCode
     requires { length recipe.now ≤ 4096 }
 {
     let mut flash = [255u8; 65536];
@@ -56,25 +57,24 @@ fn apply(recipe: &[u8])
     );
     let translated = delivered.translated;
     match translated {
-        Translated::Refused { number, place } => output::print_refusal(number, place),
-        Translated::Frames(count) => output::print_answers(&answers, count),
+        Translated::Refused { number, place } => output::print_refusal(rt, number, place),
+        Translated::Frames(count) => output::print_answers(rt, &answers, count),
     }
 }
 
 // Applies the first n bytes, or prints that the file is too long.
-fn apply_first(bytes: [u8; ASKED], n: usize) {
+fn apply_first(rt: &HostRuntime, bytes: &[u8; ASKED], n: usize) -> ExitCode {
     if n > MOST {
-        output::print_long();
-        return;
+        return output::print_long(rt);
     }
-    apply(&bytes[..n]);
+    apply(rt, &bytes[..n])
 }
 
-fn main() {
+fn main(rt: HostRuntime) -> ExitCode {
     let mut bytes = [0u8; ASKED];
-    let input = input::read_recipe(&mut bytes);
+    let input = input::read_recipe(&rt, &mut bytes);
     match input {
-        Input::Bytes(n) => apply_first(bytes, n),
-        Input::Unread => {}
+        Input::Bytes(n) => apply_first(&rt, &bytes, n),
+        Input::Unread => ExitCode::SUCCESS,
     }
 }

@@ -1,4 +1,5 @@
--- What is read of a recipe's bytes is printed in no more of them, and has no more Blocks than bytes; and which faults a reading stops at. Of any numbers, bytes or not: of a refusal the call doesn't say that its recipe holds bytes.
+-- What is read of a recipe's bytes is printed in no more of them, and has no more Blocks than bytes; and which faults a reading stops at.
+-- Of any numbers, bytes or not: of a refusal the call doesn't say that its recipe holds bytes.
 -- Assumes nothing.
 use mathlib.Core.Path.{◌≡◌, refl, sym, ap, subst, ◌∙◌}
 use mathlib.Core.Bool.{Bool, true, false, cond, not, true≢false}

@@ -1,6 +1,9 @@
 // What the arguments ask for, and the bytes of the files that the first two name, or of standard input where that is `-`. What can't be
 // read, and any other arguments, get a message on standard error.
-use libc::{STDERR_FILENO, STDIN_FILENO};
+ghost use Rattle.std.specs.Prelude.{◌≡◌, ◌↔◌, IsTrue, Ok};
+
+use std::io;
+use std::io::Read;
 
 // What reading comes to: how many bytes stand at the start of the lent ones, or nothing where they can't be read.
 #[derive(Clone, Copy)]
@@ -10,106 +13,104 @@ pub enum Input {
 }
 
 // Says how the program is called.
-fn usage() -> bool {
-    io::write_all(
-        STDERR_FILENO,
+fn usage(rt: &HostRuntime) -> bool {
+    program_io::tell(
+        rt,
         b"usage: differences RECIPE IMAGE [OUT] (- is standard input, for one of the two)\n",
     );
     false
 }
 
 // Whether an argument starts with a dash, and is longer than `most` bytes: it can name no file then, as `--help`.
-fn dashed(i: usize, most: usize) -> bool {
-    let mut word = io::buffer();
-    let n = os::arg(i, &mut word);
-    if base::byte_at(&word, 0) != b'-' {
-        return false;
+fn dashed(rt: &HostRuntime, i: usize, most: usize) -> bool {
+    let mut word = [0u8; 4096];
+    match program_io::arg(rt, i, &mut word) {
+        Ok(n) => base::byte_at(&word, 0) == b'-' && n > most,
+        Err(_) => false,
     }
-    n > most
 }
 
 // Whether the first two arguments can be read: each names a file, or one of them standard input.
-fn readable() -> bool {
-    if dashed(1, 1) {
+fn readable(rt: &HostRuntime) -> bool {
+    if dashed(rt, 1, 1) || dashed(rt, 2, 1) {
         return false;
     }
-    if dashed(2, 1) {
-        return false;
-    }
-    if dashed(1, 0) {
-        return !dashed(2, 0);
+    if dashed(rt, 1, 0) {
+        return !dashed(rt, 2, 0);
     }
     true
 }
 
 // Whether the arguments can be served: two files and, if one is named, a file for the shorter recipe.
-pub fn arguments() -> bool {
-    let count = os::arg_count();
-    if count < 3 {
-        return usage();
+pub fn arguments(rt: &HostRuntime) -> bool {
+    let count = program_io::arg_count(rt);
+    if count < 3 || count > 4 {
+        return usage(rt);
     }
-    if count > 4 {
-        return usage();
+    if !readable(rt) {
+        return usage(rt);
     }
-    if !readable() {
-        return usage();
-    }
-    if count == 4 {
-        if dashed(3, 0) {
-            return usage();
-        }
+    if count == 4 && dashed(rt, 3, 0) {
+        return usage(rt);
     }
     true
 }
 
-// Whether nothing is left to be read. Neither a failure nor a byte that comes after one is an end.
-fn ended(fd: i32) -> bool {
-    let mut one = [0u8; 1];
-    libc::read(fd, &mut one) == 0
+// Whether nothing is left to be read, by what a read came to. A failure is no end.
+fn ended(read: &io::Result<usize>) -> bool
+    ensures { IsTrue result ↔ read.now ≡ Ok 0 }
+{
+    matches!(read, Ok(0))
 }
 
 // Reads until buf is full or the input ends, with a message under this name where a read fails.
-fn read_named(fd: i32, name: &[u8], buf: &mut [u8]) -> Input {
-    let n = io::read_full(fd, buf);
-    if n == buf.len() {
-        return Input::Bytes(n);
+fn read_named<R: Read>(rt: &HostRuntime, input: &mut R, name: &[u8], buf: &mut [u8]) -> Input {
+    let mut n = 0;
+    while n < buf.len() {
+        let read = input.read(&mut buf[n..]);
+        if ended(&read) {
+            return Input::Bytes(n);
+        }
+        match read {
+            Ok(more) => n += more,
+            Err(error) => {
+                program_io::fail(rt, name, error);
+                return Input::Unread;
+            }
+        }
     }
-    if ended(fd) {
-        return Input::Bytes(n);
-    }
-    os::fail(name);
-    Input::Unread
+    Input::Bytes(n)
 }
 
 // The same of the file of this name, with a message where it can't be opened.
-fn read_file(name: &[u8], buf: &mut [u8]) -> Input {
-    let fd = os::open_read(name);
-    if fd < 0 {
-        os::fail(name);
-        return Input::Unread;
+fn read_file(rt: &HostRuntime, name: &[u8], buf: &mut [u8]) -> Input {
+    match program_io::open_read(rt, name) {
+        Ok(mut file) => read_named(rt, &mut file, name, buf),
+        Err(error) => {
+            program_io::fail(rt, name, error);
+            Input::Unread
+        }
     }
-    let input = read_named(fd, name, buf);
-    libc::close(fd);
-    input
 }
 
 // Reads what a name stands for: `-` is standard input.
-fn read_name(name: &[u8], buf: &mut [u8]) -> Input {
+fn read_name(rt: &HostRuntime, name: &[u8], buf: &mut [u8]) -> Input {
     if base::byte_at(name, 0) == b'-' {
-        return read_named(STDIN_FILENO, b"standard input", buf);
+        return read_named(rt, &mut rt.stdin(), b"standard input", buf);
     }
-    read_file(name, buf)
+    read_file(rt, name, buf)
 }
 
 // Reads as much as buf holds, from what an argument names.
-pub fn read_argument(i: usize, buf: &mut [u8]) -> Input {
-    let mut name = io::buffer();
-    let n = os::arg(i, &mut name);
-    if os::errno() != 0 {
-        os::fail(b"the file's name");
-        return Input::Unread;
+pub fn read_argument(rt: &HostRuntime, i: usize, buf: &mut [u8]) -> Input {
+    let mut name = [0u8; 4096];
+    match program_io::arg(rt, i, &mut name) {
+        Ok(n) => read_name(rt, &name[..n], buf),
+        Err(error) => {
+            program_io::fail(rt, b"the file's name", error);
+            Input::Unread
+        }
     }
-    read_name(&name[..n], buf)
 }
 
 // The first n bytes, or as many as there are.

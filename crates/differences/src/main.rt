@@ -1,6 +1,6 @@
 // Makes a recipe shorter by an image of the node's FLASH (document 02, A6): differences RECIPE IMAGE [OUT]. Arguments and reading are in
-// input, writing in output; what is done is proved in the crates below. The program can't answer a status: the first line on standard
-// error is `N erases` exactly where a recipe was made and all of it written.
+// input, writing in output; what is done is proved in the crates below. The program's status tells nothing: the first line on standard
+// error is `N erases` exactly where a recipe was made and all of it written. But where nobody reads what it writes it ends with 141.
 #![tactic(auto)]
 
 mod input;
@@ -10,6 +10,7 @@ ghost use Rattle.std.specs.Prelude.{◌≤◌, length};
 
 use differs_rules::Differences;
 use input::Input;
+use std::process::ExitCode;
 
 // The longest recipe, in bytes: Open, 2,046 Blocks of 68 bytes and Leave.
 const MOST: usize = 139132;
@@ -24,65 +25,67 @@ const ROOM: usize = 139132;
 const CELLS: usize = 65537;
 
 // Makes the recipe shorter by this image and writes it, or says what is refused and why. The room does (proofs/HasRoom.antt).
-fn shorten(recipe: &[u8], image: &[u8])
+fn shorten(rt: &HostRuntime, recipe: &[u8], image: &[u8]) -> ExitCode
     requires { length recipe.now ≤ 139132 }
 {
     let mut shorter = [0u8; ROOM];
     let differences = differs_write::differences(recipe, image, &mut shorter);
     match differences {
-        Differences::Refused { number, place } => output::refuse(number, place),
+        Differences::Refused { number, place } => output::refuse(rt, number, place),
         Differences::Kept { erases, size } => {
-            output::write_recipe(&shorter[..size], erases, recipe.len())
+            output::write_recipe(rt, &shorter[..size], erases, recipe.len())
         }
     }
 }
 
 // The same of the first n cells.
-fn shorten_by(recipe: &[u8], cells: &[u8; CELLS], n: usize)
+fn shorten_by(rt: &HostRuntime, recipe: &[u8], cells: &[u8; CELLS], n: usize) -> ExitCode
     requires { length recipe.now ≤ 139132 }
 {
-    shorten(recipe, input::first(cells, n));
+    shorten(rt, recipe, input::first(cells, n))
 }
 
 // Makes the recipe shorter by the image that the second argument names.
-fn shorten_recipe(recipe: &[u8])
+fn shorten_recipe(rt: &HostRuntime, recipe: &[u8]) -> ExitCode
     requires { length recipe.now ≤ 139132 }
 {
     let mut cells = [0u8; CELLS];
-    let input = input::read_argument(2, &mut cells);
+    let input = input::read_argument(rt, 2, &mut cells);
     match input {
-        Input::Bytes(n) => shorten_by(recipe, &cells, n),
-        Input::Unread => {}
+        Input::Bytes(n) => shorten_by(rt, recipe, &cells, n),
+        Input::Unread => ExitCode::SUCCESS,
     }
 }
 
 // Makes the recipe of the first n bytes shorter, or says that the file is too long.
-fn shorten_first(bytes: &[u8], n: usize)
+fn shorten_first(rt: &HostRuntime, bytes: &[u8], n: usize) -> ExitCode
     requires { 139133 ≤ length bytes.now }
 {
     if n > MOST {
-        return output::refuse_long();
+        return output::refuse_long(rt);
     }
-    shorten_recipe(&bytes[..n]);
+    shorten_recipe(rt, &bytes[..n])
 }
 
 // The same of all that was asked for.
-fn shorten_asked(bytes: &[u8; ASKED], n: usize) {
-    shorten_first(bytes, n);
+fn shorten_asked(rt: &HostRuntime, bytes: &[u8; ASKED], n: usize) -> ExitCode {
+    shorten_first(rt, bytes, n)
 }
 
 // Makes the recipe shorter that the first argument names.
-fn shorten_file() {
+fn shorten_file(rt: &HostRuntime) -> ExitCode {
     let mut bytes = [0u8; ASKED];
-    let input = input::read_argument(1, &mut bytes);
+    let input = input::read_argument(rt, 1, &mut bytes);
     match input {
-        Input::Bytes(n) => shorten_asked(&bytes, n),
-        Input::Unread => {}
+        Input::Bytes(n) => shorten_asked(rt, &bytes, n),
+        Input::Unread => ExitCode::SUCCESS,
     }
 }
 
-fn main() {
-    if input::arguments() {
-        shorten_file();
+fn main(rt: HostRuntime) -> ExitCode {
+    if input::arguments(&rt) {
+        shorten_file(&rt)
+    } else {
+        ExitCode::SUCCESS
     }
 }

@@ -1,0 +1,17 @@
+-- Only what can come is said: the room does for every text, so that a refusal is 30 to 35, and a recipe that was made stands in it whole.
+use Rattle.std.proofs.Common.{rules, refl, arith, length-take}
+use Rattle.hex_program.proofs.HasRoom.{answer_refused, answer_fits}
+use Rattle.hex_program.proofs.convert.Goals as goal
+
+pub refuse-requires : goal.refuse-requires
+refuse-requires c = answer_refused _ _ _ _ c.in-Refused.ensures.0 (search rules) _ _ refl
+
+pub slice_bounds-recipe-end : goal.slice_bounds-recipe-end
+slice_bounds-recipe-end c =
+    let fits = answer_fits _ _ _ _ c.in-Made.ensures.0 _ refl in
+    omega (arith, fits, c.convert-converted.auto.output)
+
+pub slice_bounds-write_recipe-end : goal.slice_bounds-write_recipe-end
+slice_bounds-write_recipe-end c =
+    let fits = answer_fits _ _ _ _ c.in-Made.ensures.0 _ refl in
+    simp length-take (omega (arith, fits, c.convert-converted.auto.output))

@@ -1,0 +1,69 @@
+// Converts a file of Intel HEX records into a recipe (document 02, A5): hex FILE MODULE GROUP [RECIPE]. Arguments and reading are in input,
+// writing in output; what is done is proved in the crates below. The program's status tells nothing: it says something on standard error
+// exactly where no recipe was made, or not all of it written. But where nobody reads what it writes it says nothing, and ends with 141.
+#![tactic(auto)]
+
+mod input;
+mod number;
+mod output;
+
+ghost use Rattle.std.specs.Prelude.{◌≤◌, length};
+
+use hex_rules::Converted;
+use input::{Asked, Input};
+use memory_address::{Group, Module};
+use std::process::ExitCode;
+
+// The longest text that is converted, in bytes.
+const MOST: usize = 1048576;
+
+// The bytes that are asked for: one more, to tell a longer file.
+const ASKED: usize = 1048577;
+
+// The room for a recipe: 1,024 Blocks of 68 bytes, 128 Rows of 12, Open and Leave. No recipe has more.
+const ROOM: usize = 71172;
+
+// Converts a text and writes the recipe, or says which line is refused and why. The room does (proofs/HasRoom.antt).
+fn convert(rt: &HostRuntime, text: &[u8], m: Module, g: Group) -> ExitCode
+    requires { length text.now ≤ 1048576 }
+{
+    let mut recipe = [0u8; ROOM];
+    let converted = hex_read::convert(text, m, g, &mut recipe);
+    match converted {
+        Converted::Refused { number, line } => output::refuse(rt, number, line),
+        Converted::Made(size) => output::write_recipe(rt, &recipe[..size]),
+    }
+}
+
+// Converts the first n bytes, or says that the file is too long.
+fn convert_first(rt: &HostRuntime, bytes: &[u8], n: usize, m: Module, g: Group) -> ExitCode
+    requires { 1048577 ≤ length bytes.now }
+{
+    if n > MOST {
+        return output::refuse_long(rt);
+    }
+    convert(rt, &bytes[..n], m, g)
+}
+
+// The same of all that was asked for.
+fn convert_asked(rt: &HostRuntime, bytes: &[u8; ASKED], n: usize, m: Module, g: Group) -> ExitCode {
+    convert_first(rt, bytes, n, m, g)
+}
+
+// Converts what the first argument names, for these numbers.
+fn convert_file(rt: &HostRuntime, m: Module, g: Group) -> ExitCode {
+    let mut bytes = [0u8; ASKED];
+    let input = input::read_text(rt, &mut bytes);
+    match input {
+        Input::Bytes(n) => convert_asked(rt, &bytes, n, m, g),
+        Input::Unread => ExitCode::SUCCESS,
+    }
+}
+
+fn main(rt: HostRuntime) -> ExitCode {
+    let asked = input::arguments(&rt);
+    match asked {
+        Asked::Recipe { module, group } => convert_file(&rt, module, group),
+        Asked::Nothing => ExitCode::SUCCESS,
+    }
+}

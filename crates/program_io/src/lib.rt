@@ -1,0 +1,92 @@
+// What the programs ask of the system: their arguments, files by the names that these give, and messages of what failed.
+#![tactic(auto)]
+
+ghost use Rattle.std.specs.Io.{WritesAtMost};
+
+use std::env::{Env, FillError};
+use std::fs::File;
+use std::io::{Error, ErrorKind, Print};
+use std::process::ExitCode;
+use std::{io, str};
+
+// The system's number of the error that an argument is none.
+const INVALID_ARGUMENT: i32 = 22;
+
+// And of the error that a name is too long.
+const NAME_TOO_LONG: i32 = 36;
+
+// The status of a program that nobody reads: what a shell has for one that the system's signal ended.
+const UNREAD: u8 = 141;
+
+// How many arguments there are, with the program's own name.
+pub fn arg_count(rt: &impl Env) -> usize {
+    for i in 0..usize::MAX {
+        if let Err(FillError::NotPresent) = rt.arg(i, &mut []) {
+            return i;
+        }
+    }
+    usize::MAX
+}
+
+// Puts an argument at the start of buf and answers its length, or why that can't be. One that is longer leaves its first bytes in buf.
+pub fn arg(rt: &impl Env, i: usize, buf: &mut [u8]) -> io::Result<usize>
+    ensures { WritesAtMost result buf.new }
+{
+    match rt.arg(i, buf) {
+        Ok(n) => Ok(n),
+        Err(FillError::TooLong) => Err(Error::from_raw_os_error(NAME_TOO_LONG)),
+        Err(FillError::NotPresent) => Err(Error::from_raw_os_error(INVALID_ARGUMENT)),
+    }
+}
+
+// A file's name as text, which it has to be.
+fn text_of(name: &[u8]) -> io::Result<&str> {
+    match str::from_utf8(name) {
+        Ok(text) => Ok(text),
+        Err(_) => Err(Error::from(ErrorKind::InvalidFilename)),
+    }
+}
+
+// Opens the file of this name for reading.
+pub fn open_read(rt: &HostRuntime, name: &[u8]) -> io::Result<File> {
+    File::open(rt, text_of(name)?)
+}
+
+// Opens the file of this name for writing: it is made anew, or emptied first.
+pub fn open_overwrite(rt: &HostRuntime, name: &[u8]) -> io::Result<File> {
+    File::create(rt, text_of(name)?)
+}
+
+// Writes words to standard error. Where they can't be written there is nobody left to tell.
+pub fn tell(rt: &HostRuntime, words: &[u8]) {
+    let _ = rt.stderr().write_all(words);
+}
+
+// The words of an error of the system's, without the number that stands behind them.
+fn without_number(words: &str) -> &str {
+    match words.rsplit_once(" (os error ") {
+        Some((before, _)) => before,
+        None => words,
+    }
+}
+
+// Writes a line to standard error: what failed, as the caller names it, a colon and why.
+pub fn fail(rt: &HostRuntime, what: &[u8], error: Error) {
+    tell(rt, what);
+    tell(rt, b": ");
+    match format!(in rt.alloc(); "{error}") {
+        Ok(words) => tell(rt, without_number(words.as_str()).as_bytes()),
+        Err(_) => tell(rt, b"out of memory"),
+    }
+    tell(rt, b"\n");
+}
+
+// The status that a program ends with where output can't be written: 0, with a message under this name. But where nobody reads it the
+// status alone tells of it.
+pub fn unwritten(rt: &HostRuntime, what: &[u8], error: Error) -> ExitCode {
+    if error.kind() == ErrorKind::BrokenPipe {
+        return ExitCode::from(UNREAD);
+    }
+    fail(rt, what, error);
+    ExitCode::SUCCESS
+}
