@@ -4,12 +4,12 @@ use Rattle.node_change.proofs.put.Goals as goal
 
 pub returns-in-Flash : goal.returns-in-Flash
 returns-in-Flash c = (
-  simp c.in-Flash.f.1 c.write_flash.ensures.1,
-  simp c.in-Flash.f.1,
+  simp c.in-Flash.is c.write_flash.ensures.1,
+  simp c.in-Flash.is,
 )
 
 pub returns-in-Eeprom : goal.returns-in-Eeprom
 returns-in-Eeprom c = (
-  simp c.in-Eeprom.p.1,
-  simp c.in-Eeprom.p.1 c.write_eeprom.ensures.1,
+  simp c.in-Eeprom.is,
+  simp c.in-Eeprom.is c.write_eeprom.ensures.1,
 )

@@ -2,8 +2,9 @@
 -- wrapping leaves is told by the laws of InPlace.antt.
 -- Assumes nothing.
 use mathlib.Core.Path.{◌≡◌, refl}
+use mathlib.Core.List.{◌++◌}
 use native.Mathlib.Omega.{arith}
-use lib.ListN.{length, length-take, length-append, replicate}
+use lib.ListN.{drop, length, length-take, length-append, replicate}
 use borrow.Author.Tests.{eq-eqb, ne_eqb}
 use Rattle.base.specs.Parts.{part}
 use Rattle.base.proofs.Patched.{part_length}
@@ -17,29 +18,29 @@ returns-then-count-eq0 c = simp (eq-eqb _ 0 c.if-count-eq0.true)
 
 pub slice_bounds-wrap-end : goal.slice_bounds-wrap-end
 slice_bounds-wrap-end c =
-    let l : length c.args.t2 ≡ 24 = search rules in
+    let l : length c.args.replies ≡ 24 = search rules in
     simp length-take (omega arith)
 
 pub returns-then-count-eq1 : goal.returns-then-count-eq1
 returns-then-count-eq1 c =
-    let replies = c.args.t2 in
+    let replies = c.args.replies in
     let count = c.args.count in
     let full : length replies ≡ 24 = search rules in
     simp (ne_eqb count 0 c.if-count-eq0.false, eq-eqb count 1 c.if-count-eq1.true)
-    (first_in_place replies full _ ((let here :c.wrap.new.1.0 ≡ wrapped_of (part c.args.t2 0 12) = let replies = c.args.t2 in let l : length replies ≡ 24 = search rules in let m : length (part replies 0 12) ≡ 12 = part_length replies 0 12 (omega arith) in filled (part replies 0 12) (replicate 15 0) _ _ c.wrap.ensures.0 c.wrap.ensures.1 refl m in here))
+    (first_in_place replies full _ ((let here : c.wrap.new.wrapped ≡ wrapped_of (part c.args.replies 0 12) = let replies = c.args.replies in let l : length replies ≡ 24 = search rules in let m : length (part replies 0 12) ≡ 12 = part_length replies 0 12 (omega arith) in filled (part replies 0 12) (replicate 15 0) _ _ c.wrap.ensures.0 c.wrap.ensures.1 refl m in here)))
 
 pub slice_bounds-out-end-2 : goal.slice_bounds-out-end-2
 slice_bounds-out-end-2 c =
-    let l : length c.wrap.new.1.0 ≡ 15 = c.out-2-1.given in
+    let l : length c.wrap.new.wrapped ≡ 15 = search rules in
     simp length-append (omega arith)
 
 pub returns : goal.returns
 returns c =
-    let replies = c.args.t2 in
+    let replies = c.args.replies in
     let count = c.args.count in
     let full : length replies ≡ 24 = search rules in
-    let room = c.out-3-1.given.2 in
+    let room : length (drop 15 (c.wrap.new.wrapped ++ replicate 15 0)) ≡ 15 = search rules in
     let reply = c.wrap-arg-1.given.2 in
     let second-filled = filled _ _ _ _ c.wrap-2.ensures.0 c.wrap-2.ensures.1 room reply in
     simp (ne_eqb count 0 c.if-count-eq0.false, ne_eqb count 1 c.if-count-eq1.false)
-    (both_in_place replies full _ _ c.out-2-1.given ((let here :c.wrap.new.1.0 ≡ wrapped_of (part c.args.t2 0 12) = let replies = c.args.t2 in let l : length replies ≡ 24 = search rules in let m : length (part replies 0 12) ≡ 12 = part_length replies 0 12 (omega arith) in filled (part replies 0 12) (replicate 15 0) _ _ c.wrap.ensures.0 c.wrap.ensures.1 refl m in here) second-filled)
+    (both_in_place replies full _ _ (search rules) ((let here : c.wrap.new.wrapped ≡ wrapped_of (part c.args.replies 0 12) = let replies = c.args.replies in let l : length replies ≡ 24 = search rules in let m : length (part replies 0 12) ≡ 12 = part_length replies 0 12 (omega arith) in filled (part replies 0 12) (replicate 15 0) _ _ c.wrap.ensures.0 c.wrap.ensures.1 refl m in here)) second-filled)

@@ -3,13 +3,13 @@
 use Rattle.node_request.proofs.obey.Goals as goal
 
 pub returns-in-Nothing : goal.returns-in-Nothing
-returns-in-Nothing c = simp c.in-Nothing.is.1 c.refuse.ensures
+returns-in-Nothing c = simp c.in-Nothing.is c.refuse.ensures
 
 pub returns-in-Read : goal.returns-in-Read
-returns-in-Read c = simp c.in-Read.a.1 c.does.ensures
+returns-in-Read c = simp c.in-Read.is c.does.ensures
 
 pub returns-in-Write : goal.returns-in-Write
-returns-in-Write c = simp c.in-Write.a.1 c.does-in-Write.ensures
+returns-in-Write c = simp c.in-Write.is c.does-in-Write.ensures
 
 pub returns-in-Erase : goal.returns-in-Erase
-returns-in-Erase c = simp c.in-Erase.f.1 c.does-in-Erase.ensures
+returns-in-Erase c = simp c.in-Erase.is c.does-in-Erase.ensures

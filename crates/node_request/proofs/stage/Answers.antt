@@ -8,7 +8,7 @@ returns-in-Legal c =
       ← c.address_in-at.ensures,
       ← c.byte_at-command.ensures,
       ← c.rule.ensures,
-      c.in-Legal.a.1,
+      c.in-Legal.is,
       ← c.command_at.ensures,
     ) c.does.ensures
 
@@ -18,5 +18,5 @@ returns-in-Illegal c =
       ← c.address_in-at.ensures,
       ← c.byte_at-command.ensures,
       ← c.rule.ensures,
-      c.in-Illegal.is.1,
+      c.in-Illegal.is,
     ) c.refuse.ensures

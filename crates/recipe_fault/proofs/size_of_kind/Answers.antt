@@ -16,7 +16,7 @@ returns-in-3 c = rw c.in-3.is (refl, omega arith, omega arith)
 
 pub returns-in_default : goal.returns-in_default
 returns-in_default c = (
-  simp (ne_eqb _ 1 c.in_default.in_default-own.rest.0.0.1, ne_eqb _ 2 c.in_default.in_default-own.rest.0.1, ne_eqb _ 3 c.in_default.in_default-own.rest.1),
+  simp (ne_eqb c.args.kind 1 (omega arith), ne_eqb c.args.kind 2 (omega arith), ne_eqb c.args.kind 3 (omega arith)),
   omega arith,
   omega arith,
 )

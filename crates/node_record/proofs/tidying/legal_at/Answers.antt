@@ -3,7 +3,7 @@
 use Rattle.node_record.proofs.tidying.legal_at.Goals as goal
 
 pub returns-in-Flash : goal.returns-in-Flash
-returns-in-Flash c = simp c.in-Flash.f.1 c.legal_flash.ensures
+returns-in-Flash c = simp c.in-Flash.is c.legal_flash.ensures
 
 pub returns-in-Eeprom : goal.returns-in-Eeprom
-returns-in-Eeprom c = simp c.in-Eeprom.p.1 c.legal_eeprom.ensures
+returns-in-Eeprom c = simp c.in-Eeprom.is c.legal_eeprom.ensures

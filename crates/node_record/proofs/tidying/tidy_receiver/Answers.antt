@@ -10,6 +10,7 @@ use borrow.Author.Rules.{rules}
 use Rattle.node_rules.specs.declared.Receiver.{Receiver}
 use Rattle.node_record.proofs.Kept.{cleared_to, none_cleared, turn_clears, leaves_be, length_cleared, all_cleared, no_count, too_many, other_start}
 use Rattle.node_record.proofs.tidying.tidy_receiver.Goals as goal
+use Rattle.node_record.proofs.tidying.tidy_receiver.Goals.{then-count-i, else-count-i}
 
 pub returns-then-count-eq0 : goal.returns-then-count-eq0
 returns-then-count-eq0 c = c.none_held.ensures ∙ no_count c.args.r c.if-count-eq0.true
@@ -44,10 +45,10 @@ loop-i-preserved c =
     let inv = c.loop-i.invariant in
     let room : List ℕ → Receiver = λ b. record { held = b; count = k } in
     let next : c.if-count-i.t ≡ room (cleared_to h k (i + 1)) =
-    ⊎_elim
-    (λ x. x.1 ∙ turn_clears c.loop-i.t h k i inv.4 x.0.taken (omega (arith, inv.2)))
-    (λ x. x.1 ∙ inv.4 ∙ ap room (leaves_be h k i (omega (arith, x.0.left))))
-    c.if-count-i.branch in (
+    elim c.if-count-i.branch [
+      then-count-i w ↦ w.t-is ∙ turn_clears c.loop-i.t h k i inv.4 (omega arith) (omega (arith, inv.2))
+      | else-count-i w ↦ w.t-is ∙ inv.4 ∙ ap room (leaves_be h k i (omega arith))
+    ] in (
       omega (arith, inv.0),
       omega arith,
       inv.2,

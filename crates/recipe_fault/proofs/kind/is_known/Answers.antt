@@ -1,5 +1,6 @@
 -- `recipe_fault::kind::is_known` meets its contract: each arm knows which kind it is.
 -- Assumes nothing.
+use native.Mathlib.Omega.{arith}
 use borrow.Author.Tests.{ne_eqb}
 use Rattle.recipe_fault.proofs.kind.is_known.Goals as goal
 
@@ -18,9 +19,8 @@ returns-in-15 c = rw c.in-15.is
 pub returns-in_default : goal.returns-in_default
 returns-in_default c =
     simp (
-      ne_eqb _ 1 c.in_default.in_default-own.rest.0.0.0.1,
-      ne_eqb _ 2 c.in_default.in_default-own.rest.0.0.1,
-      ne_eqb _ 3 c.in_default.in_default-own.rest.0.1,
-      ne_eqb _ 15
-          c.in_default.in_default-own.rest.1,
+      ne_eqb c.args.kind 1 (omega arith),
+      ne_eqb c.args.kind 2 (omega arith),
+      ne_eqb c.args.kind 3 (omega arith),
+      ne_eqb c.args.kind 15 (omega arith),
     )

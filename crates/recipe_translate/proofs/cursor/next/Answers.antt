@@ -11,5 +11,5 @@ returns c =
     let input = c.args.input.now in (
       next_is input c.args.c c.size_of_kind.result
           c.frames_of_kind.result c.size_of_kind.ensures.0 c.frames_of_kind.ensures.0,
-      bytes_by input (λ i l. omega (arith, c.shared_slice_known-1.given i)),
+      bytes_by input (λ i l. omega (arith, c.type_inv.input i)),
     )

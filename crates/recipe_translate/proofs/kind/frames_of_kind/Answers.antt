@@ -16,4 +16,4 @@ returns-in-15 c = rw c.in-15.is (refl, omega arith)
 
 pub returns-in_default : goal.returns-in_default
 returns-in_default c =
-    (simp (ne_eqb _ 2 c.in_default.in_default-own.rest.0.0.1, ne_eqb _ 3 c.in_default.in_default-own.rest.0.1, ne_eqb _ 15 c.in_default.in_default-own.rest.1), omega arith)
+    (simp (ne_eqb c.args.kind 2 (omega arith), ne_eqb c.args.kind 3 (omega arith), ne_eqb c.args.kind 15 (omega arith)), omega arith)

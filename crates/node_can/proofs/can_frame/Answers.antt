@@ -1,0 +1,44 @@
+-- `node_can::can_frame` meets its contract: the record is tidied where it lies, what is decided is done to the memories and answered over
+-- them; each arm knows the next mode.
+-- Assumes nothing.
+use mathlib.Core.Path.{◌≡◌, ◌∙◌, sym}
+use mathlib.Core.Logic.{⊎_elim}
+use borrow.Author.Tests.{not-true, not-false}
+use Rattle.node_rules.specs.Record.{tidied}
+use Rattle.node_record.proofs.Tidied.{kept_tidied, lost_tidied}
+use Rattle.node_can.proofs.Stepping.{stepped}
+use Rattle.node_can.proofs.can_frame.Goals as goal
+
+pub returns-in-Stays : goal.returns-in-Stays
+returns-in-Stays c = stepped c.args.node
+    c.args.frame.now
+    c.args.flash.now
+    c.args.eeprom.now
+    c.if-not-is_tidy.n c.full-full.result c.decide-e.result _ _ c.replies-r.result
+    c.if-not-is_tidy.n
+    ((let here : c.if-not-is_tidy.n ≡ tidied c.args.node = let n = c.args.node in let r = c.tidy_receiver-receiver.result in let e = c.tidy_receiver-receiver.ensures in ⊎_elim (λ x. x.2 ∙ x.1.ensures ∙ lost_tidied n r e (sym c.is_tidy.ensures ∙ not-true c.is_tidy.result x.0.taken)) (λ x. x.1 ∙ kept_tidied n r e (sym c.is_tidy.ensures ∙ not-false c.is_tidy.result x.0.left)) c.if-not-is_tidy.branch in here)) c.full-full.ensures c.decide-e.ensures c.change.ensures.0 c.change.ensures.1
+    c.replies-r.ensures
+    (simp c.in-Stays.is)
+
+pub returns-in-Programs : goal.returns-in-Programs
+returns-in-Programs c = stepped c.args.node
+    c.args.frame.now
+    c.args.flash.now
+    c.args.eeprom.now
+    c.if-not-is_tidy.n c.full-full.result c.decide-e.result _ _ c.replies-r.result
+    c.with_mode-n-in-Programs.result
+    ((let here : c.if-not-is_tidy.n ≡ tidied c.args.node = let n = c.args.node in let r = c.tidy_receiver-receiver.result in let e = c.tidy_receiver-receiver.ensures in ⊎_elim (λ x. x.2 ∙ x.1.ensures ∙ lost_tidied n r e (sym c.is_tidy.ensures ∙ not-true c.is_tidy.result x.0.taken)) (λ x. x.1 ∙ kept_tidied n r e (sym c.is_tidy.ensures ∙ not-false c.is_tidy.result x.0.left)) c.if-not-is_tidy.branch in here)) c.full-full.ensures
+    c.decide-e.ensures c.change.ensures.0 c.change.ensures.1 c.replies-r.ensures
+    (simp c.in-Programs.is c.with_mode-n-in-Programs.ensures)
+
+pub returns-in-Waits : goal.returns-in-Waits
+returns-in-Waits c = stepped c.args.node
+    c.args.frame.now
+    c.args.flash.now
+    c.args.eeprom.now
+    c.if-not-is_tidy.n c.full-full.result c.decide-e.result _ _ c.replies-r.result c.with_mode-n-in-Waits.result
+    ((let here : c.if-not-is_tidy.n ≡ tidied c.args.node = let n = c.args.node in let r = c.tidy_receiver-receiver.result in let e = c.tidy_receiver-receiver.ensures in ⊎_elim (λ x. x.2 ∙ x.1.ensures ∙ lost_tidied n r e (sym c.is_tidy.ensures ∙ not-true c.is_tidy.result x.0.taken)) (λ x. x.1 ∙ kept_tidied n r e (sym c.is_tidy.ensures ∙ not-false c.is_tidy.result x.0.left)) c.if-not-is_tidy.branch in here)) c.full-full.ensures c.decide-e.ensures
+    c.change.ensures.0
+    c.change.ensures.1
+    c.replies-r.ensures
+    (simp c.in-Waits.is c.with_mode-n-in-Waits.ensures)
