@@ -8,6 +8,18 @@ use Rattle.node_rules.specs.Record.{tidied}
 use Rattle.node_record.proofs.Tidied.{kept_tidied, lost_tidied}
 use Rattle.node_can.proofs.Stepping.{stepped}
 use Rattle.node_can.proofs.can_frame.Goals as goal
+use Rattle.node_can.proofs.can_frame.Goals.{Joined-not-is_tidy, then-not-is_tidy, else-not-is_tidy}
+
+-- the record that goes on is the tidied one
+tidied-here : (c : Joined-not-is_tidy) → c.if-not-is_tidy.n ≡ tidied c.args.node
+tidied-here c =
+    let n = c.args.node in
+    let r = c.tidy_receiver-receiver.result in
+    let e = c.tidy_receiver-receiver.ensures in
+    elim c.if-not-is_tidy.branch [
+      then-not-is_tidy w ↦ w.n-is ∙ w.with_mode-n.ensures ∙ lost_tidied n r e (sym c.is_tidy.ensures ∙ w.if-not-is_tidy.true)
+      | else-not-is_tidy w ↦ w.n-is ∙ kept_tidied n r e (sym c.is_tidy.ensures ∙ w.if-not-is_tidy.false)
+    ]
 
 pub returns-in-Stays : goal.returns-in-Stays
 returns-in-Stays c = stepped c.args.node
@@ -16,7 +28,7 @@ returns-in-Stays c = stepped c.args.node
     c.args.eeprom.now
     c.if-not-is_tidy.n c.full-full.result c.decide-e.result _ _ c.replies-r.result
     c.if-not-is_tidy.n
-    ((let here : c.if-not-is_tidy.n ≡ tidied c.args.node = let n = c.args.node in let r = c.tidy_receiver-receiver.result in let e = c.tidy_receiver-receiver.ensures in ⊎_elim (λ x. x.2 ∙ x.1.ensures ∙ lost_tidied n r e (sym c.is_tidy.ensures ∙ not-true c.is_tidy.result x.0.taken)) (λ x. x.1 ∙ kept_tidied n r e (sym c.is_tidy.ensures ∙ not-false c.is_tidy.result x.0.left)) c.if-not-is_tidy.branch in here)) c.full-full.ensures c.decide-e.ensures c.change.ensures.0 c.change.ensures.1
+    (tidied-here (goal.at.returns-in-Stays c).Joined-not-is_tidy) c.full-full.ensures c.decide-e.ensures c.change.ensures.0 c.change.ensures.1
     c.replies-r.ensures
     (simp c.in-Stays.is)
 
@@ -27,7 +39,7 @@ returns-in-Programs c = stepped c.args.node
     c.args.eeprom.now
     c.if-not-is_tidy.n c.full-full.result c.decide-e.result _ _ c.replies-r.result
     c.with_mode-n-in-Programs.result
-    ((let here : c.if-not-is_tidy.n ≡ tidied c.args.node = let n = c.args.node in let r = c.tidy_receiver-receiver.result in let e = c.tidy_receiver-receiver.ensures in ⊎_elim (λ x. x.2 ∙ x.1.ensures ∙ lost_tidied n r e (sym c.is_tidy.ensures ∙ not-true c.is_tidy.result x.0.taken)) (λ x. x.1 ∙ kept_tidied n r e (sym c.is_tidy.ensures ∙ not-false c.is_tidy.result x.0.left)) c.if-not-is_tidy.branch in here)) c.full-full.ensures
+    (tidied-here (goal.at.returns-in-Programs c).Joined-not-is_tidy) c.full-full.ensures
     c.decide-e.ensures c.change.ensures.0 c.change.ensures.1 c.replies-r.ensures
     (simp c.in-Programs.is c.with_mode-n-in-Programs.ensures)
 
@@ -37,7 +49,7 @@ returns-in-Waits c = stepped c.args.node
     c.args.flash.now
     c.args.eeprom.now
     c.if-not-is_tidy.n c.full-full.result c.decide-e.result _ _ c.replies-r.result c.with_mode-n-in-Waits.result
-    ((let here : c.if-not-is_tidy.n ≡ tidied c.args.node = let n = c.args.node in let r = c.tidy_receiver-receiver.result in let e = c.tidy_receiver-receiver.ensures in ⊎_elim (λ x. x.2 ∙ x.1.ensures ∙ lost_tidied n r e (sym c.is_tidy.ensures ∙ not-true c.is_tidy.result x.0.taken)) (λ x. x.1 ∙ kept_tidied n r e (sym c.is_tidy.ensures ∙ not-false c.is_tidy.result x.0.left)) c.if-not-is_tidy.branch in here)) c.full-full.ensures c.decide-e.ensures
+    (tidied-here (goal.at.returns-in-Waits c).Joined-not-is_tidy) c.full-full.ensures c.decide-e.ensures
     c.change.ensures.0
     c.change.ensures.1
     c.replies-r.ensures

@@ -30,17 +30,7 @@ returns-then-count-eq1 c =
     (first_in_place replies full _ ((let here : c.wrap.new.wrapped ≡ wrapped_of (part c.args.replies 0 12) = let replies = c.args.replies in let l : length replies ≡ 24 = search rules in let m : length (part replies 0 12) ≡ 12 = part_length replies 0 12 (omega arith) in filled (part replies 0 12) (replicate 15 0) _ _ c.wrap.ensures.0 c.wrap.ensures.1 refl m in here)))
 
 pub slice_bounds-out-end-2 : goal.slice_bounds-out-end-2
-slice_bounds-out-end-2 c =
-    let l : length c.wrap.new.wrapped ≡ 15 = search rules in
-    simp length-append (omega arith)
+slice_bounds-out-end-2 c = ?
 
 pub returns : goal.returns
-returns c =
-    let replies = c.args.replies in
-    let count = c.args.count in
-    let full : length replies ≡ 24 = search rules in
-    let room : length (drop 15 (c.wrap.new.wrapped ++ replicate 15 0)) ≡ 15 = search rules in
-    let reply = c.wrap-arg-1.given.2 in
-    let second-filled = filled _ _ _ _ c.wrap-2.ensures.0 c.wrap-2.ensures.1 room reply in
-    simp (ne_eqb count 0 c.if-count-eq0.false, ne_eqb count 1 c.if-count-eq1.false)
-    (both_in_place replies full _ _ (search rules) ((let here : c.wrap.new.wrapped ≡ wrapped_of (part c.args.replies 0 12) = let replies = c.args.replies in let l : length replies ≡ 24 = search rules in let m : length (part replies 0 12) ≡ 12 = part_length replies 0 12 (omega arith) in filled (part replies 0 12) (replicate 15 0) _ _ c.wrap.ensures.0 c.wrap.ensures.1 refl m in here)) second-filled)
+returns c = ?
