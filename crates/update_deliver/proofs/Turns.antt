@@ -93,7 +93,7 @@ module _ (frames : List ℕ) (count : ℕ) (flash₀ eeprom₀ answers₀ : List
               ∙ ap (λ (s : Step). behind h.done (behind (told s.answer ∷ []) (rest s.answer.node s.flash s.eeprom))) e
               ∙ ap (behind h.done) (sym (frame_first (state n flash eeprom) (part frames at 12) others))
               ∙ ap (λ (fs : List (List ℕ)). behind h.done (delivered fs n flash eeprom)) (sym (next_frame some))
-              ∙ h.goesOn;
+              ∙ h.goes_on;
           written =
               p
               ∙ ap (λ (x : List ℕ). patch x to t) h.written
@@ -102,8 +102,8 @@ module _ (frames : List ℕ) (count : ℕ) (flash₀ eeprom₀ answers₀ : List
           long = ap length put ∙ length-append (joined h.done) t ∙ omega (arith, h.long);
           here = omega (arith, h.here);
           there = omega (arith, h.there);
-          same_flash = lf ∙ h.sameFlash;
-          same_eeprom = le ∙ h.sameEeprom;
+          same_flash = lf ∙ h.same_flash;
+          same_eeprom = le ∙ h.same_eeprom;
         }
 
     -- at the end all are handed over
@@ -114,4 +114,4 @@ module _ (frames : List ℕ) (count : ℕ) (flash₀ eeprom₀ answers₀ : List
         ap (handed n flash eeprom)
         (h.written ∙ ap₂ (λ (xs : List (List ℕ)) (k : ℕ). joined xs ++ drop k answers₀) (sym (append-nil h.done)) all)
         ∙ ap (λ (d : Delivery). handed_by d count answers₀)
-        (ap (λ (k : ℕ). behind h.done (delivered (first_frames k (drop at frames)) n flash eeprom)) (sym z) ∙ h.goesOn)
+        (ap (λ (k : ℕ). behind h.done (delivered (first_frames k (drop at frames)) n flash eeprom)) (sym z) ∙ h.goes_on)

@@ -1,0 +1,12 @@
+-- `update_deliver::handing::hand_over` meets its contract. At each turn what was told, and then the delivery of the frames that are left,
+-- is the whole delivery (proofs/Turns).
+-- Assumes nothing.
+use Rattle.update_deliver.proofs.Turns.{Handing}
+use Rattle.update_deliver.proofs.handing.hand_over.Given as goal
+
+abbrev pub invariant-loop-left : goal.invariant-loop-left
+invariant-loop-left l =
+    Handing l.frames l.count l.initial.flash l.initial.eeprom l.initial.answers l.initial.n l.flash l.eeprom l.answers l.n l.at l.to l.left
+
+abbrev pub decreases-loop-left : goal.decreases-loop-left
+decreases-loop-left l = l.left
