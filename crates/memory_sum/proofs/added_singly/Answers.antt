@@ -1,8 +1,6 @@
 -- `memory_sum::added_singly` meets its contract: after i turns the first i cells are added, each at most 255.
 -- Assumes nothing.
 use mathlib.Core.Path.{refl}
-use Prim.Native.Nat.{◌-◌}
-use lib.ListN.{take}
 use lib.Seq.{take_all}
 use Rattle.base.proofs.Sums.{sum_more}
 use native.Mathlib.Omega.{arith}

@@ -2,8 +2,8 @@
 -- Assumes nothing.
 use mathlib.Core.Path.{◌∙◌, refl, sym, ap}
 use mathlib.Core.List.{List}
-use Prim.Native.Nat.{ℕ, ◌+◌, ◌-◌}
-use lib.ListN.{length, drop, drop_of_length-le}
+use Prim.Native.Nat.{ℕ, ◌+◌}
+use lib.ListN.{drop, drop_of_length-le}
 use native.Mathlib.Omega.{arith}
 use Rattle.run_digest.specs.Internal.Digest.{digest_of}
 use Rattle.run_digest.proofs.Laws.{next_byte}
