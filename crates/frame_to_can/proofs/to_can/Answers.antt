@@ -1,13 +1,12 @@
 -- `frame_to_can::to_can` meets its contract: behind a number 0 the output is the eight data bytes, and else it was not lent on.
 -- Assumes nothing.
-use mathlib.Core.Path.{◌≡◌, ◌∙◌, refl, sym, ap}
+use mathlib.Core.Path.{◌≡◌, ◌∙◌, sym, ap}
 use Prim.Native.Nat.{ℕ}
 use mathlib.Core.Bool.{false}
 use mathlib.Core.List.{List}
 use native.Mathlib.Omega.{arith}
 use lib.ListN.{length}
 use borrow.Author.Tests.{ne_eqb}
-use Rattle.base.proofs.Stored.{mix_all}
 use Rattle.base.proofs.Listed.{listed_rest}
 use Rattle.frame_rules.specs.declared.Identified.{Identified}
 use Rattle.frame_rules.specs.Frame.{identifier_of, upper_flags}
@@ -29,8 +28,7 @@ returns-then-to_can_number-eq0 c =
     let f = c.args.frame.now in
     let h = (let here : (length c.args.«data».now ≡ 8)
     × (length c.args.frame.now ≡ 12)
-    × (upper_flags c.args.frame.now ≡ false) = to_can_done _ _ (sym c.to_can_number-to_can_number.ensures.0 ∙ c.if-to_can_number-eq0.true) in here) in
-    (
+    × (upper_flags c.args.frame.now ≡ false) = to_can_done _ _ (sym c.to_can_number-to_can_number.ensures.0 ∙ c.if-to_can_number-eq0.true) in here) in (
       identified _ _ _ f c.to_can_number-to_can_number.ensures.0 c.if-to_can_number-eq0.true c.identifier_of.ensures,
       rw c.if-to_can_number-eq0.true (c.copy_from_slice.ensures.after ∙ d.ensures ∙ listed_rest f 4 8 h.1),
       c.to_can_number-to_can_number.ensures.1,

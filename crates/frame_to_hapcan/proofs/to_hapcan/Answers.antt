@@ -1,13 +1,12 @@
 -- `frame_to_hapcan::to_hapcan` meets its contract: behind a number 0 the output is the head and the data, and else it was not lent on.
 -- Assumes nothing.
-use mathlib.Core.Path.{◌≡◌, ◌∙◌, refl, sym, ap}
+use mathlib.Core.Path.{◌≡◌, ◌∙◌, sym, ap}
 use mathlib.Core.List.{List, ◌++◌, append-nil}
 use Prim.Native.Nat.{ℕ, ◌-◌}
 use native.Mathlib.Omega.{arith}
 use lib.ListN.{length, take, drop, length-take, length-drop, drop_of_length-le}
 use borrow.Author.Tests.{leb-true, ne_eqb}
 use mathlib.Core.Bool.{true}
-use Rattle.base.proofs.Stored.{mix_all}
 use Rattle.base.proofs.Listed.{listed_all}
 use Rattle.frame_rules.specs.Frame.{head_of, hapcan_of, legal_identifier}
 use Rattle.frame_rules.proofs.Done.{to_hapcan_done}

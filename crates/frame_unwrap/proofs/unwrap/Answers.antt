@@ -1,13 +1,10 @@
 -- `frame_unwrap::unwrap` meets its contract: behind a number 0 the output is the inner bytes, and else it was not lent on.
 -- Assumes nothing.
-use mathlib.Core.Path.{◌≡◌, ◌∙◌, refl, sym, ap}
-use mathlib.Core.Bool.{true}
+use mathlib.Core.Path.{◌∙◌, sym, ap}
 use native.Mathlib.Omega.{arith}
-use lib.ListN.{length, replicate}
+use lib.ListN.{length}
 use borrow.Author.Tests.{ne_eqb}
-use Rattle.base.proofs.Stored.{mix_all}
 use Rattle.base.proofs.Patched.{part_length}
-use Rattle.frame_rules.specs.Wrapping.{inner_of, rightly_wrapped}
 use Rattle.frame_rules.proofs.Done.{unwrap_done}
 use Rattle.frame_unwrap.proofs.unwrap.Goals as goal
 

@@ -1,13 +1,12 @@
 -- `frame_wrap::wrap` meets its contract: behind a number 0 the output is start, bytes, sum and stop, and else it was not lent on.
 -- Assumes nothing.
 use mathlib.Core.Path.{◌≡◌, ◌∙◌, refl, sym, ap}
-use mathlib.Core.List.{List, [], ◌∷◌, ◌++◌}
+use mathlib.Core.List.{List, ◌∷◌, ◌++◌}
 use Prim.Native.Nat.{ℕ}
 use native.Mathlib.Omega.{arith}
 use lib.ListN.{length, take, drop, set, length-set, length-append, length-take, length-drop}
 use lib.Seq.{drop-set-add}
 use borrow.Author.Tests.{ne_eqb}
-use Rattle.base.proofs.Stored.{mix_all}
 use Rattle.base.proofs.Listed.{listed_all}
 use Rattle.frame_rules.specs.Wrapping.{wrapped_of}
 use Rattle.frame_rules.proofs.Done.{wrap_done}

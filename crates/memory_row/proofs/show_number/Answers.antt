@@ -15,9 +15,9 @@ returns-then-eeprom-ne-EEPROM_CELLS c = simp (ne_eqb _ 1024 c.if-eeprom-ne-EEPRO
 pub returns-in-Legal : goal.returns-in-Legal
 unfolding shown_number
 returns-in-Legal c =
-        simp (eq-eqb _ 65536 c.if-flash-ne-FLASH_CELLS.false, eq-eqb _ 1024 c.if-eeprom-ne-EEPROM_CELLS.false, ← c.in-Legal.ensures)
+    simp (eq-eqb _ 65536 c.if-flash-ne-FLASH_CELLS.false, eq-eqb _ 1024 c.if-eeprom-ne-EEPROM_CELLS.false, ← c.in-Legal.ensures)
 
 pub returns-in-Illegal : goal.returns-in-Illegal
 unfolding shown_number
 returns-in-Illegal c =
-        simp (eq-eqb _ 65536 c.if-flash-ne-FLASH_CELLS.false, eq-eqb _ 1024 c.if-eeprom-ne-EEPROM_CELLS.false, ← c.in-Illegal.ensures)
+    simp (eq-eqb _ 65536 c.if-flash-ne-FLASH_CELLS.false, eq-eqb _ 1024 c.if-eeprom-ne-EEPROM_CELLS.false, ← c.in-Illegal.ensures)

@@ -45,22 +45,22 @@ returns-then-eeprom-ne-EEPROM_CELLS c =
 
 pub slice_bounds-result-end-in-Flash : goal.slice_bounds-result-end-in-Flash
 slice_bounds-result-end-in-Flash c =
-        let e = sym c.in-Legal.ensures ∙ ap Legal c.in-Flash.is in
+    let e = sym c.in-Legal.ensures ∙ ap Legal c.in-Flash.is in
     omega (arith, lies c.args.at _ e)
 
 pub overflow_sub-a : goal.overflow_sub-a
 overflow_sub-a c =
-        let e = sym c.in-Legal.ensures ∙ ap Legal c.in-Eeprom.is in
+    let e = sym c.in-Legal.ensures ∙ ap Legal c.in-Eeprom.is in
     omega (arith, lies c.args.at _ e)
 
 pub slice_bounds-result-end-in-Eeprom : goal.slice_bounds-result-end-in-Eeprom
 slice_bounds-result-end-in-Eeprom c =
-        let e = sym c.in-Legal.ensures ∙ ap Legal c.in-Eeprom.is in
+    let e = sym c.in-Legal.ensures ∙ ap Legal c.in-Eeprom.is in
     omega (arith, lies c.args.at _ e)
 
 pub returns-in-Flash : goal.returns-in-Flash
 returns-in-Flash c =
-        let args = c.args in
+    let args = c.args in
     let f = c.in-Flash.f.0 in
     let q = sym c.in-Legal.ensures ∙ ap Legal c.in-Flash.is in
     let l = c.if-flash-ne-FLASH_CELLS.false in
@@ -72,7 +72,7 @@ returns-in-Flash c =
 
 pub returns-in-Eeprom : goal.returns-in-Eeprom
 returns-in-Eeprom c =
-        let args = c.args in
+    let args = c.args in
     let e = c.in-Eeprom.e.0 - 0xF00000 in
     let q = sym c.in-Legal.ensures ∙ ap Legal c.in-Eeprom.is in
     let l = c.if-flash-ne-FLASH_CELLS.false in
@@ -84,7 +84,7 @@ returns-in-Eeprom c =
 
 pub returns-in-Illegal : goal.returns-in-Illegal
 returns-in-Illegal c =
-        let args = c.args in
+    let args = c.args in
     let q = sym c.in-Illegal.ensures in
     let l = c.if-flash-ne-FLASH_CELLS.false in
     let m = c.if-eeprom-ne-EEPROM_CELLS.false in (

@@ -4,7 +4,6 @@
 use mathlib.Core.Path.{refl}
 use native.Mathlib.Numerals.{add-one}
 use Prim.Native.Nat.{◌-◌}
-use Rattle.memory_same.specs.Same.{same}
 use Rattle.memory_same.proofs.Looking.{one_more_lem, all_looked_at}
 use native.Mathlib.Omega.{arith}
 use Rattle.memory_same.proofs.all_same.Goals as goal

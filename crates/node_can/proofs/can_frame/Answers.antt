@@ -2,8 +2,6 @@
 -- them; each arm knows the next mode.
 -- Assumes nothing.
 use mathlib.Core.Path.{◌≡◌, ◌∙◌, sym}
-use mathlib.Core.Logic.{⊎_elim}
-use borrow.Author.Tests.{not-true, not-false}
 use Rattle.node_rules.specs.Record.{tidied}
 use Rattle.node_record.proofs.Tidied.{kept_tidied, lost_tidied}
 use Rattle.node_can.proofs.Stepping.{stepped}
@@ -17,7 +15,7 @@ tidied-here c =
     let r = c.tidy_receiver-receiver.result in
     let e = c.tidy_receiver-receiver.ensures in
     elim c.if-not-is_tidy.branch [
-      then-not-is_tidy w ↦ w.n-is ∙ w.with_mode-n.ensures ∙ lost_tidied n r e (sym c.is_tidy.ensures ∙ w.if-not-is_tidy.true)
+      | then-not-is_tidy w ↦ w.n-is ∙ w.with_mode-n.ensures ∙ lost_tidied n r e (sym c.is_tidy.ensures ∙ w.if-not-is_tidy.true)
       | else-not-is_tidy w ↦ w.n-is ∙ kept_tidied n r e (sym c.is_tidy.ensures ∙ w.if-not-is_tidy.false)
     ]
 

@@ -1,8 +1,6 @@
 -- `node_piece::uart_piece` meets its contract: each return is one law of Returning.antt.
 -- Assumes nothing.
 use mathlib.Core.Path.{◌≡◌, ◌∙◌, sym}
-use mathlib.Core.Logic.{⊎_elim}
-use borrow.Author.Tests.{not-true, not-false}
 use Rattle.node_rules.specs.Record.{tidied}
 use Rattle.node_record.proofs.Tidied.{with_receiver}
 use Rattle.node_piece_rules.proofs.Opening.{Opened}
@@ -25,7 +23,7 @@ tidied-here c =
     let n = c.args.node in
     let r = c.gather-g.result.receiver in
     elim c.if-not-is_tidy.branch [
-      then-not-is_tidy w ↦ w.n-is ∙ w.with_mode-n.ensures ∙ lost_as_tidied n r (sym c.is_tidy.ensures ∙ w.if-not-is_tidy.true)
+      | then-not-is_tidy w ↦ w.n-is ∙ w.with_mode-n.ensures ∙ lost_as_tidied n r (sym c.is_tidy.ensures ∙ w.if-not-is_tidy.true)
       | else-not-is_tidy w ↦ w.n-is ∙ kept_as_tidied n r (sym c.is_tidy.ensures ∙ w.if-not-is_tidy.false)
     ]
 

@@ -4,7 +4,7 @@ use mathlib.Core.Path.{◌∙◌, refl, ap}
 use mathlib.Core.List.{List}
 use Prim.Native.Nat.{ℕ, ◌+◌, ◌-◌}
 use native.Mathlib.Omega.{arith}
-use lib.ListN.{length, get_or, set, length-set}
+use lib.ListN.{get_or, set, length-set}
 use borrow.Author.Rules.{rules}
 use Rattle.node_port.proofs.Keeping.{holds_one, holds_all}
 use Rattle.node_port.proofs.held_from.Goals as goal

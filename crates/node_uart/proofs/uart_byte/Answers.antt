@@ -2,9 +2,8 @@
 -- Assumes nothing.
 use mathlib.Core.Path.{◌≡◌, ◌∙◌, sym}
 use mathlib.Core.Bool.{true, false}
-use mathlib.Core.Logic.{◌⊎◌, ⊎_elim, inl, inr}
+use mathlib.Core.Logic.{◌⊎◌, inl, inr}
 use lib.ListN.{length-set}
-use borrow.Author.Tests.{not-true, not-false}
 use Rattle.memory_address.specs.Places.{full}
 use Rattle.node_rules.specs.Record.{tidied}
 use Rattle.node_rules.specs.Outcomes.{is_deaf}
@@ -21,7 +20,7 @@ tidied-here c =
     let r = c.tidy_receiver-receiver.result in
     let e = c.tidy_receiver-receiver.ensures in
     elim c.if-not-is_tidy.branch [
-      then-not-is_tidy w ↦ w.n-is ∙ w.with_mode-n.ensures ∙ lost_tidied n r e (sym c.is_tidy.ensures ∙ w.if-not-is_tidy.true)
+      | then-not-is_tidy w ↦ w.n-is ∙ w.with_mode-n.ensures ∙ lost_tidied n r e (sym c.is_tidy.ensures ∙ w.if-not-is_tidy.true)
       | else-not-is_tidy w ↦ w.n-is ∙ kept_tidied n r e (sym c.is_tidy.ensures ∙ w.if-not-is_tidy.false)
     ]
 

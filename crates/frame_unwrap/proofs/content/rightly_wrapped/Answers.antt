@@ -23,12 +23,12 @@ returns-then-wrapped-ne15 c = simp (ne_eqb _ _ c.if-wrapped-ne15.true)
 pub returns-then-wrapped : goal.returns-then-wrapped
 unfolding rightly_wrapped
 returns-then-wrapped c =
-        sym (second-fails _ _ _ (eq-eqb _ _ c.if-wrapped-ne15.false) (ne_eqb _ _ c.if-wrapped.true))
+    sym (second-fails _ _ _ (eq-eqb _ _ c.if-wrapped-ne15.false) (ne_eqb _ _ c.if-wrapped.true))
 
 pub returns-then-wrapped-sum : goal.returns-then-wrapped-sum
 unfolding rightly_wrapped
 returns-then-wrapped-sum c =
-        sym (
+    sym (
     third-fails _ _ _ _ (eq-eqb _ _ c.if-wrapped-ne15.false) (eq-eqb _ _ c.if-wrapped.false)
     (ne_eqb _ _ (λ e. c.if-wrapped-sum.true (e ∙ sym c.sum_of-sum.ensures)))
     )
@@ -36,7 +36,7 @@ returns-then-wrapped-sum c =
 pub returns : goal.returns
 unfolding rightly_wrapped
 returns c =
-        sym (
+    sym (
     last-decides _ _ _ _ (eq-eqb _ _ c.if-wrapped-ne15.false) (eq-eqb _ _ c.if-wrapped.false)
     (eq-eqb _ _ (c.if-wrapped-sum.false ∙ c.sum_of-sum.ensures))
     )

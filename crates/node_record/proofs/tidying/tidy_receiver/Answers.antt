@@ -2,7 +2,6 @@
 -- Assumes nothing.
 use mathlib.Core.Path.{◌≡◌, ◌∙◌, ap}
 use mathlib.Core.List.{List}
-use mathlib.Core.Logic.{⊎_elim}
 use Prim.Native.Nat.{ℕ, ◌+◌, ◌-◌}
 use native.Mathlib.Omega.{arith}
 use lib.ListN.{length}
@@ -46,7 +45,7 @@ loop-i-preserved c =
     let room : List ℕ → Receiver = λ b. record { held = b; count = k } in
     let next : c.if-count-i.t ≡ room (cleared_to h k (i + 1)) =
     elim c.if-count-i.branch [
-      then-count-i w ↦ w.t-is ∙ turn_clears c.loop-i.t h k i inv.4 (omega arith) (omega (arith, inv.2))
+      | then-count-i w ↦ w.t-is ∙ turn_clears c.loop-i.t h k i inv.4 (omega arith) (omega (arith, inv.2))
       | else-count-i w ↦ w.t-is ∙ inv.4 ∙ ap room (leaves_be h k i (omega arith))
     ] in (
       omega (arith, inv.0),
