@@ -1,6 +1,7 @@
 -- `frame_unwrap::unwrap` meets its contract: behind a number 0 the output is the inner bytes, and else it was not lent on.
 -- Assumes nothing.
 use mathlib.Core.Path.{◌∙◌, sym, ap}
+use mathlib.Core.Bool.{true}
 use native.Mathlib.Omega.{arith}
 use lib.ListN.{length}
 use borrow.Author.Tests.{ne_eqb}

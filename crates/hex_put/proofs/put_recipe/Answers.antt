@@ -1,7 +1,7 @@
 -- `hex_put::put_recipe` meets its contract: Open, the blocks, the rows and Leave, one behind the other.
 -- Assumes nothing.
 use mathlib.Core.Path.{refl}
-use mathlib.Core.List.{◌∷◌}
+use mathlib.Core.List.{[], ◌∷◌}
 use Rattle.hex_put.proofs.Whole.{blocks, rows, bytes_parts, blocks_inside, rows_inside, first_room, second_room, fourth}
 use native.Mathlib.Omega.{arith}
 use Rattle.hex_put.proofs.put_recipe.Goals as goal

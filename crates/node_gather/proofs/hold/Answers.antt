@@ -1,6 +1,7 @@
 -- `node_gather::hold` meets its contract: each turn holds one byte more.
 -- Assumes nothing.
 use mathlib.Core.Path.{refl, sym}
+use mathlib.Core.List.{[]}
 use mathlib.Core.Logic.{inl, inr}
 use Prim.Native.Nat.{◌-◌}
 use native.Mathlib.Omega.{arith}
