@@ -32,7 +32,7 @@ use Rattle.node_piece_rules.proofs.Opening.{Opened, refused_or_open}
 use Rattle.node_piece_rules.proofs.Answering.{refused_takes_none}
 use Rattle.node_gather.specs.Internal.Gathered.{gathered, number_of, left_of}
 use Rattle.node_gather.proofs.Telling.{Given}
-use Rattle.node_piece.specs.Internal.Answers.{refusalOf, silentPiece}
+use Rattle.node_piece.specs.Internal.Answers.{refusal_of, silent_piece}
 use Rattle.node_piece.proofs.Judging.{complete, piece_gathered}
 
 -- where nothing is held, a frame does to a record what it does to that record tidied
@@ -67,11 +67,11 @@ module _ (n : Node) (bs flash eeprom : List ℕ) where
   -- whether 1, 2 or 3 is met is seen on the record as it came: it is, or none of them is
   abbrev Shut : Type 0
   Shut =
-      (refusalOf (full flash eeprom) n ≡ 0 → ⊥) × (Opened n flash eeprom → ⊥)
-      × (no_byte n flash eeprom ≡ silent (refusalOf (full flash eeprom) n) (tidied n) flash eeprom)
+      (refusal_of (full flash eeprom) n ≡ 0 → ⊥) × (Opened n flash eeprom → ⊥)
+      × (no_byte n flash eeprom ≡ silent (refusal_of (full flash eeprom) n) (tidied n) flash eeprom)
 
   abbrev Open : Type 0
-  Open = (refusalOf (full flash eeprom) n ≡ 0) × Opened n flash eeprom
+  Open = (refusal_of (full flash eeprom) n ≡ 0) × Opened n flash eeprom
 
   shut_or_open : Shut ⊎ Open
   unfolding tidied
@@ -87,17 +87,17 @@ module _ (n : Node) (bs flash eeprom : List ℕ) where
       go true f false c false d = inr (rw (f, c, d) refl, (f, c, tidy_deaf n.mode ∙ d))
 
   -- none of them
-  pub opened : (number : ℕ) → number ≡ refusalOf (full flash eeprom) n → number ≡ 0 → Opened n flash eeprom
+  pub opened : (number : ℕ) → number ≡ refusal_of (full flash eeprom) n → number ≡ 0 → Opened n flash eeprom
   opened number e z = ⊎_elim (λ s. absurd (s.0 (sym e ∙ z))) (λ o. o.1) shut_or_open
 
   -- one of them
-  pub refused : (number : ℕ) (t : Node) → number ≡ refusalOf (full flash eeprom) n → (number ≡ 0 → ⊥) → t ≡ tidied n
-      → piece_after (silentPiece 0 number t) flash eeprom ≡ piece_step n bs flash eeprom
+  pub refused : (number : ℕ) (t : Node) → number ≡ refusal_of (full flash eeprom) n → (number ≡ 0 → ⊥) → t ≡ tidied n
+      → piece_after (silent_piece 0 number t) flash eeprom ≡ piece_step n bs flash eeprom
   refused number t e m h =
       ⊎_elim
       (λ s.
-      ap (λ (x : Node). piece_after (silentPiece 0 number x) flash eeprom) h
-      ∙ ap (λ (k : ℕ). piece_after (silentPiece 0 k (tidied n)) flash eeprom) e
+      ap (λ (x : Node). piece_after (silent_piece 0 number x) flash eeprom) h
+      ∙ ap (λ (k : ℕ). piece_after (silent_piece 0 k (tidied n)) flash eeprom) e
       ∙ sym
       (⊎_elim (λ r. refused_takes_none n bs flash eeprom r) (λ o. absurd (s.1 o)) (refused_or_open n flash eeprom)
       ∙ ap (λ (x : UartStep). last_taken x []) s.2))
@@ -127,10 +127,10 @@ module _ (n : Node) (bs flash eeprom : List ℕ) where
 
     -- 10 and 11
     pub waits : (m : Node) → (number ≡ 0 → ⊥) → m ≡ with_receiver (tidied n) r
-        → piece_after (silentPiece taken number m) flash eeprom ≡ piece_step n bs flash eeprom
+        → piece_after (silent_piece taken number m) flash eeprom ≡ piece_step n bs flash eeprom
     unfolding tidied
     waits m d e =
-        ap (λ (x : Node). piece_after (silentPiece taken number x) flash eeprom) e
+        ap (λ (x : Node). piece_after (silent_piece taken number x) flash eeprom) e
         ∙ go (incomplete ys) refl (rightly_wrapped ys) refl
       where
         -- with the number and what stays held, as they are told

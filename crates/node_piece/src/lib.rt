@@ -7,14 +7,14 @@ ghost use Rattle.memory_address.specs.Places.{full};
 ghost use Rattle.node_rules.specs.Step.{can_step};
 ghost use Rattle.node_rules.specs.Uart.{uart_after, via_uart};
 ghost use Rattle.node_piece_rules.specs.Piece.{piece_after, piece_step};
-ghost use Rattle.node_piece.specs.Internal.Answers.{refusalOf, silentPiece};
+ghost use Rattle.node_piece.specs.Internal.Answers.{refusal_of, silent_piece};
 
 use node_piece_rules::PieceAnswer;
 use node_rules::{Mode, Node, Staged, UartAnswer};
 
 // No reply, and so many bytes taken.
 fn silent(taken: usize, number: u8, n: Node) -> PieceAnswer
-    ensures { result ≡ silentPiece taken number n }
+    ensures { result ≡ silent_piece taken number n }
 {
     PieceAnswer {
         taken,
@@ -24,7 +24,7 @@ fn silent(taken: usize, number: u8, n: Node) -> PieceAnswer
 
 // 1, 2 and 3 in this order, or 0: tidying makes no difference to them.
 fn refusal(n: Node, flash: &[u8], eeprom: &[u8]) -> u8
-    ensures { result ≡ refusalOf (full flash.now eeprom.now) n }
+    ensures { result ≡ refusal_of (full flash.now eeprom.now) n }
 {
     if !node_frame::full(flash, eeprom) {
         return 1;
