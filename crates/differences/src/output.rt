@@ -108,7 +108,7 @@ fn write_named<W: Write>(
     }
 }
 
-// Closes a file that was written; a message where that fails.
+// Hands on what is left of a file that was written; a message where that fails. The system closes it without an answer.
 fn close(rt: &HostRuntime, mut file: File, name: &[u8]) -> Result<(), ExitCode> {
     match file.flush() {
         Ok(()) => Ok(()),

@@ -22,7 +22,7 @@ use Rattle.recipe.specs.Frames.{frame_count}
 use Rattle.recipe.specs.Faults.{kind_of, body_length, fault_at}
 use Rattle.recipe.specs.Reading.{Reading, Stop, at_end, fault, size_of, items_at, with_items, reading, recipe_of}
 use Rattle.recipe.specs.Translation.{answer_at, checked}
-use Rattle.recipe_fault.specs.Internal.Steps.{read_on_lem, AtItem}
+use Rattle.recipe_fault.specs.Internal.Steps.{read_on, AtItem}
 use Rattle.recipe_fault.proofs.Faulting.{kind_at}
 use Rattle.recipe_fault.proofs.Walking.{read_start, on_end, on_fault, on_next, fewer, not_ended, item_inside}
 use Rattle.differs_rules.specs.Keeping.{left_by_all, kept_items, kept_recipe, block_count}
@@ -38,7 +38,7 @@ use Rattle.differs_write.proofs.Turning.{Turned, written, turned, at_block}
 
 pub record Seen (s image last places : List ℕ) (w : Walk) : Type 0 where
   pub items : List Item
-  pub read : reading s ≡ with_items items (read_on_lem s w.place w.number w.ended)
+  pub read : reading s ≡ with_items items (read_on s w.place w.number w.ended)
   pub shows : Shows s image last (left_by_all items image)
   pub bytes : cut_to s 0 (take w.dropped places) w.place ≡ written s w.number w.ended (kept_items items image)
   pub blocks : w.erases ≡ block_count (kept_items items image)
@@ -117,7 +117,7 @@ one_or_none b k =
 module _ (s image last places : List ℕ) (w : Walk) (k : Seen s image last places w) where
   -- ---- how it ends
 
-  stops : (t : Stop) → read_on_lem s w.place w.number w.ended ≡ record { items = []; stop = t } → (reading s).stop ≡ t
+  stops : (t : Stop) → read_on s w.place w.number w.ended ≡ record { items = []; stop = t } → (reading s).stop ≡ t
   stops t e = ap (λ (r : Reading). r.stop) k.read ∙ ap (λ (r : Reading). r.stop) e
 
   -- no Leave yet
@@ -253,8 +253,8 @@ module _ (s image last places : List ℕ) (w : Walk) (k : Seen s image last plac
               k.read
               ∙ ap (with_items k.items) (on_next s w.place w.number w.ended at)
               ∙ ap (λ (is : List Item).
-              record { items = is; stop = (read_on_lem s (w.place + size_of t) (w.number + 1) (eqb (kind_of t) 0x0F)).stop })
-              (sym (append_assoc k.items (items_at t) (read_on_lem s (w.place + size_of t) (w.number + 1) (eqb (kind_of t) 0x0F)).items));
+              record { items = is; stop = (read_on s (w.place + size_of t) (w.number + 1) (eqb (kind_of t) 0x0F)).stop })
+              (sym (append_assoc k.items (items_at t) (read_on s (w.place + size_of t) (w.number + 1) (eqb (kind_of t) 0x0F)).items));
           shows =
               subst (Shows s image (last_after s w.place last)) (sym (left_append k.items (items_at t) image)) turn.shows;
           bytes =

@@ -15,11 +15,11 @@ use Rattle.base.proofs.Choice.{neither}
 use Rattle.recipe.specs.Faults.{kind_of, fault_at}
 use Rattle.recipe.specs.Reading.{Reading, at_end, fault, size_of, items_at, with_items, read_from, reading}
 use Rattle.recipe.proofs.Order.{Faultless, faultless}
-use Rattle.recipe.proofs.Steps.{read_end, read_fault, read_on}
-use Rattle.recipe_fault.specs.Internal.Steps.{read_on_lem, AtItem}
+use Rattle.recipe.proofs.Steps.{read_end, read_fault, read_on as read_item}
+use Rattle.recipe_fault.specs.Internal.Steps.{read_on, AtItem}
 
 -- a recipe is read from its first byte on, item 1 there and no Leave before it
-pub read_start : (s : List ℕ) → reading s ≡ read_on_lem s 0 1 false
+pub read_start : (s : List ℕ) → reading s ≡ read_on s 0 1 false
 unfolding reading
 read_start s = refl
 
@@ -31,13 +31,13 @@ module _ (s : List ℕ) (place number : ℕ) (ended : Bool) where
   looks few = omega arith
 
   -- at the end
-  pub on_end : number ≤ 2049 → length s ≤ place → read_on_lem s place number ended ≡ record { items = []; stop = at_end ended }
+  pub on_end : number ≤ 2049 → length s ≤ place → read_on s place number ended ≡ record { items = []; stop = at_end ended }
   unfolding from
   on_end few h = ap from (looks few) ∙ read_end (2049 - number) (drop place s) place number ended (simp length-drop (omega arith))
 
   -- at an item at fault
   pub on_fault : number ≤ 2049 → place < length s → (n : ℕ) → n ≡ fault_at (drop place s) number ended → (n ≡ 0 → ⊥)
-      → read_on_lem s place number ended ≡ record { items = []; stop = fault n place }
+      → read_on s place number ended ≡ record { items = []; stop = fault n place }
   unfolding from
   on_fault few h n e z =
       ap from (looks few)
@@ -66,15 +66,15 @@ module _ (s : List ℕ) (place number : ℕ) (ended : Bool) where
     item_inside = omega (arith, none.whole, length-drop place s, at.inside)
 
     -- it is read, and then what is behind it
-    pub on_next : read_on_lem s place number ended
+    pub on_next : read_on s place number ended
         ≡ with_items (items_at (drop place s))
-        (read_on_lem s (place + size_of (drop place s)) (number + 1) (eqb (kind_of (drop place s)) 0x0F))
+        (read_on s (place + size_of (drop place s)) (number + 1) (eqb (kind_of (drop place s)) 0x0F))
     unfolding from
     on_next =
         let t = drop place s in
         let there : 2049 - number ≡ 2050 - (number + 1) = omega arith in
         ap from (looks at.few)
-        ∙ read_on (2049 - number) t place number ended (simp length-drop (omega (arith, at.inside))) at.faultless
+        ∙ read_item (2049 - number) t place number ended (simp length-drop (omega (arith, at.inside))) at.faultless
         ∙ ap₂ (λ (n : ℕ) (l : List ℕ).
         with_items (items_at t) (read_from n l (place + size_of t) (number + 1) (eqb (kind_of t) 0x0F)))
         there (drop-drop (size_of t) place s)

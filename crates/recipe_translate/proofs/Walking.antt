@@ -19,7 +19,7 @@ use Rattle.recipe.specs.Frames.{item_count, items_count, frame_count}
 use Rattle.recipe.specs.Faults.{kind_of, body_length, fault_at}
 use Rattle.recipe.specs.Reading.{Reading, Stop, items_at, with_items, reading, recipe_of}
 use Rattle.recipe.specs.Translation.{answer_at, checked}
-use Rattle.recipe_fault.specs.Internal.Steps.{read_on_lem}
+use Rattle.recipe_fault.specs.Internal.Steps.{read_on}
 use Rattle.recipe_fault.proofs.Faulting.{kind_at}
 use Rattle.recipe_fault.proofs.Walking.{read_start, on_end, on_fault, at_item, fewer, item_inside}
 use Rattle.recipe_fault.proofs.Walking.{not_ended as before_leave, on_next as read_next}
@@ -97,7 +97,7 @@ kept_start s = record {
   stop = ap (λ (r : Reading). r.stop) (read_start s);
   count =
       ap (λ (r : Reading). items_count r.items + 1) (read_start s)
-      ∙ ap (λ (n : ℕ). n + 1) (sym (zero-add (items_count (read_on_lem s 0 1 false).items)));
+      ∙ ap (λ (n : ℕ). n + 1) (sym (zero-add (items_count (read_on s 0 1 false).items)));
   stands = record { inside = zero-le; few = omega arith; small = omega arith };
 }
 

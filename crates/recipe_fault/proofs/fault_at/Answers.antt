@@ -9,27 +9,27 @@ pub returns-then-number-eq2049 : goal.returns-then-number-eq2049
 returns-then-number-eq2049 c =
     let a = c.args in
     many_there a.input.now a.place a.number a.ended
-    (omega (arith, c.if-number-eq2049.true))
+    (omega arith)
 
 pub returns-then-input-place : goal.returns-then-input-place
 returns-then-input-place c =
     let a = c.args in
     behind_there a.input.now a.place a.number a.ended
-    c.if-number-eq2049.false
+    (λ e. omega arith)
     (omega arith)
 
 pub returns-then-not-is_known : goal.returns-then-not-is_known
 returns-then-not-is_known c =
     let a = c.args in
     unknown_there a.input.now a.place a.number a.ended
-    c.if-number-eq2049.false
+    (λ e. omega arith)
     (sym c.is_known.ensures ∙ c.if-not-is_known.true)
 
 pub returns-then-out_of_place : goal.returns-then-out_of_place
 returns-then-out_of_place c =
     let a = c.args in
     misplaced_there a.input.now a.place a.number a.ended
-    c.if-number-eq2049.false
+    (λ e. omega arith)
     (sym c.is_known.ensures ∙ c.if-not-is_known.false)
     (sym c.out_of_place.ensures ∙ c.if-out_of_place.true)
 
@@ -37,7 +37,7 @@ pub returns-then-input-place-2 : goal.returns-then-input-place-2
 returns-then-input-place-2 c =
     let a = c.args in
     short_there a.input.now a.place a.number a.ended
-    c.if-number-eq2049.false
+    (λ e. omega arith)
     (sym c.is_known.ensures ∙ c.if-not-is_known.false)
     (sym c.out_of_place.ensures ∙ c.if-out_of_place.false)
     c.size_of_kind.result
@@ -48,7 +48,7 @@ pub returns-then-is_illegal : goal.returns-then-is_illegal
 returns-then-is_illegal c =
     let a = c.args in
     illegal_there a.input.now a.place a.number a.ended
-    c.if-number-eq2049.false
+    (λ e. omega arith)
     (sym c.is_known.ensures
     ∙ c.if-not-is_known.false)
     (sym c.out_of_place.ensures ∙ c.if-out_of_place.false)
@@ -63,7 +63,7 @@ pub returns : goal.returns
 returns c =
     let a = c.args in
     faultless_there a.input.now a.place a.number a.ended
-    c.if-number-eq2049.false
+    (λ e. omega arith)
     (sym c.is_known.ensures
     ∙ c.if-not-is_known.false)
     (sym c.out_of_place.ensures ∙ c.if-out_of_place.false)

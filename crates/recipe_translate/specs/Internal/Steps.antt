@@ -3,12 +3,12 @@ use Rattle.std.specs.Prelude.{ℕ, ◌+◌, ◌<◌, Bool, cond, List, eqb, drop
 use Rattle.recipe_item.specs.Internal.Emitted.{frames_of_kind}
 use Rattle.recipe.specs.Faults.{kind_of}
 use Rattle.recipe.specs.Reading.{Reading, size_of}
-use Rattle.recipe_fault.specs.Internal.Steps.{read_on_lem, AtItem}
+use Rattle.recipe_fault.specs.Internal.Steps.{read_on, AtItem}
 use Rattle.recipe_translate.specs.declared.cursor.Cursor.{Cursor}
 
 -- the reading from a cursor on
 abbrev pub read_at : List ℕ → Cursor → Reading
-read_at input c = read_on_lem input c.place c.number c.ended
+read_at input c = read_on input c.place c.number c.ended
 
 -- the frames of Leave that are still to come
 abbrev pub leave_left : Bool → ℕ
