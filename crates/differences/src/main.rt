@@ -1,6 +1,7 @@
 // Makes a recipe shorter by an image of the node's FLASH (document 02, A6): differences RECIPE IMAGE [OUT]. Arguments and reading are in
 // input, writing in output; what is done is proved in the crates below. The program's status tells nothing: the first line on standard
-// error is `N erases` exactly where a recipe was made and all of it written. But where nobody reads what it writes it ends with 141.
+// error is `N erases` exactly where a recipe was made and all of it written, as far as the system says as it is written. But where nobody
+// reads what it writes it ends with 141.
 #![tactic(auto)]
 
 mod input;

@@ -1,6 +1,7 @@
 // Converts a file of Intel HEX records into a recipe (document 02, A5): hex FILE MODULE GROUP [RECIPE]. Arguments and reading are in input,
 // writing in output; what is done is proved in the crates below. The program's status tells nothing: it says something on standard error
-// exactly where no recipe was made, or not all of it written. But where nobody reads what it writes it says nothing, and ends with 141.
+// exactly where no recipe was made, or not all of it written, as far as the system says as it is written. But where nobody reads what it
+// writes it says nothing, and ends with 141.
 #![tactic(auto)]
 
 mod input;
