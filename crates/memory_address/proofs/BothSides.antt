@@ -1,6 +1,7 @@
 -- "Legal rows" from both sides, in document 01's numbers: every multiple that it names is legal in its memory, and nothing else is. The
 -- rule tries one range and then the other; a number of the second is none of the first, since the ranges lie apart.
 -- Assumes nothing.
+use Rattle.std.specs.Prelude.{Option, None}
 use mathlib.Core.Path.{◌≡◌, refl, ap}
 use mathlib.Core.Bool.{Bool, true, false, ◌&&◌, cond, false≢true}
 use mathlib.Core.List.{[], ◌∷◌, map}
@@ -9,10 +10,9 @@ use native.Mathlib.Omega.{arith}
 use lib.Dec.{leb, eqb, lit<}
 use borrow.Author.Tests.{leb-true, eqb-true, eq-eqb, le-leb}
 use Rattle.base.proofs.Choice.{by_cond, both_true, true_both}
-use Rattle.memory_address.specs.declared.Ruled.{Ruled}
-use Rattle.memory_address.specs.declared.Ruled.TheVariants.{Illegal}
 use Rattle.memory_address.specs.Rule.{ruled, is_flash, is_eeprom, numbered, in_flash, in_eeprom}
 use Rattle.memory_address.specs.Ranges.{Multiple, Exactly, FlashRow, EepromRow, Block}
+use Rattle.memory_address.specs.declared.Address.{Address}
 
 -- ---- a test, and two of them one after the other
 
@@ -30,51 +30,51 @@ says_test step low high a m =
     true_both (leb low a) _ (le-leb low a m.0) (true_both (leb a high) _ (le-leb a high m.1) (eq-eqb (a % step) 0 m.2))
 
 module _ (s l h : ℕ) (a : ℕ) where
-  one_exactly : Exactly (cond (test s l h a) (in_flash a) Illegal ≡ in_flash a) (Multiple s l h a)
+  one_exactly : Exactly (cond (test s l h a) (in_flash a) None ≡ in_flash a) (Multiple s l h a)
   one_exactly = (
-    by_cond (λ (r : Ruled). r ≡ in_flash a → Multiple s l h a) (test s l h a) _ _ (λ t _. test_says s l h a t)
+    by_cond (λ (r : Option Address). r ≡ in_flash a → Multiple s l h a) (test s l h a) _ _ (λ t _. test_says s l h a t)
         (λ _ e. absurd (false≢true (ap is_flash e))),
     λ m. rw (says_test s l h a m) refl,
   )
 
-  one_else : (Multiple s l h a → ⊥) → cond (test s l h a) (in_flash a) Illegal ≡ Illegal
+  one_else : (Multiple s l h a → ⊥) → cond (test s l h a) (in_flash a) None ≡ None
   one_else n =
-      by_cond (λ (r : Ruled). r ≡ Illegal) (test s l h a) _ _ (λ t. absurd (n (test_says s l h a t))) (λ _. refl)
+      by_cond (λ (r : Option Address). r ≡ None) (test s l h a) _ _ (λ t. absurd (n (test_says s l h a t))) (λ _. refl)
 
 module _ (s l h s' l' h' : ℕ) (apart : h < l') (a : ℕ) where
-  abbrev two : Ruled
-  two = cond (test s l h a) (in_flash a) (cond (test s' l' h' a) (in_eeprom a) Illegal)
+  abbrev two : Option Address
+  two = cond (test s l h a) (in_flash a) (cond (test s' l' h' a) (in_eeprom a) None)
 
   first_exactly : Exactly (two ≡ in_flash a) (Multiple s l h a)
   first_exactly = (
-    by_cond (λ (r : Ruled). r ≡ in_flash a → Multiple s l h a) (test s l h a) _ _ (λ t _. test_says s l h a t)
-        (λ _. by_cond (λ (r : Ruled). r ≡ in_flash a → Multiple s l h a) (test s' l' h' a) _ _
+    by_cond (λ (r : Option Address). r ≡ in_flash a → Multiple s l h a) (test s l h a) _ _ (λ t _. test_says s l h a t)
+        (λ _. by_cond (λ (r : Option Address). r ≡ in_flash a → Multiple s l h a) (test s' l' h' a) _ _
         (λ _ e. absurd (false≢true (ap is_flash e))) (λ _ e. absurd (false≢true (ap is_flash e)))),
     λ m. rw (says_test s l h a m) refl,
   )
 
   second_exactly : Exactly (two ≡ in_eeprom a) (Multiple s' l' h' a)
   second_exactly = (
-    by_cond (λ (r : Ruled). r ≡ in_eeprom a → Multiple s' l' h' a) (test s l h a) _ _
+    by_cond (λ (r : Option Address). r ≡ in_eeprom a → Multiple s' l' h' a) (test s l h a) _ _
         (λ _ e. absurd (false≢true (ap is_eeprom e)))
-        (λ _. by_cond (λ (r : Ruled). r ≡ in_eeprom a → Multiple s' l' h' a) (test s' l' h' a) _ _
+        (λ _. by_cond (λ (r : Option Address). r ≡ in_eeprom a → Multiple s' l' h' a) (test s' l' h' a) _ _
         (λ t _. test_says s' l' h' a t) (λ _ e. absurd (false≢true (ap is_eeprom e)))),
     λ m.
-        by_cond (λ (r : Ruled). r ≡ in_eeprom a) (test s l h a) _ _
+        by_cond (λ (r : Option Address). r ≡ in_eeprom a) (test s l h a) _ _
         (λ t. let k = test_says s l h a t in let z : ⊥ = omega arith in absurd z)
         (λ _. rw (says_test s' l' h' a m) refl),
   )
 
-  two_else : (Multiple s l h a → ⊥) → (Multiple s' l' h' a → ⊥) → two ≡ Illegal
+  two_else : (Multiple s l h a → ⊥) → (Multiple s' l' h' a → ⊥) → two ≡ None
   two_else n n' =
-      by_cond (λ (r : Ruled). r ≡ Illegal) (test s l h a) _ _ (λ t. absurd (n (test_says s l h a t)))
-      (λ _. by_cond (λ (r : Ruled). r ≡ Illegal) (test s' l' h' a) _ _ (λ t. absurd (n' (test_says s' l' h' a t))) (λ _. refl))
+      by_cond (λ (r : Option Address). r ≡ None) (test s l h a) _ _ (λ t. absurd (n (test_says s l h a t)))
+      (λ _. by_cond (λ (r : Option Address). r ≡ None) (test s' l' h' a) _ _ (λ t. absurd (n' (test_says s' l' h' a t))) (λ _. refl))
 
 -- ---- the rule
 
 -- "read 0x01 .. at multiples of 8, in 0x001000 to 0x00FFF8 or 0xF00000 to 0xF003F8"
 pub read_legal : (a : ℕ) → Exactly (ruled a 0x01 ≡ in_flash a) (FlashRow a) × Exactly (ruled a 0x01 ≡ in_eeprom a) (EepromRow a)
-    × ((FlashRow a → ⊥) → (EepromRow a → ⊥) → ruled a 0x01 ≡ Illegal)
+    × ((FlashRow a → ⊥) → (EepromRow a → ⊥) → ruled a 0x01 ≡ None)
 unfolding ruled
 read_legal a = (
   first_exactly 8 0x001000 0x00FFF8 8 0xF00000 0xF003F8 (lit< tt) a,
@@ -84,7 +84,7 @@ read_legal a = (
 
 -- "and write 0x02"
 pub write_legal : (a : ℕ) → Exactly (ruled a 0x02 ≡ in_flash a) (FlashRow a) × Exactly (ruled a 0x02 ≡ in_eeprom a) (EepromRow a)
-    × ((FlashRow a → ⊥) → (EepromRow a → ⊥) → ruled a 0x02 ≡ Illegal)
+    × ((FlashRow a → ⊥) → (EepromRow a → ⊥) → ruled a 0x02 ≡ None)
 unfolding ruled
 write_legal a = (
   first_exactly 8 0x001000 0x00FFF8 8 0xF00000 0xF003F8 (lit< tt) a,
@@ -93,30 +93,30 @@ write_legal a = (
 )
 
 -- "Erase 0x03 at multiples of 64 in 0x001000 to 0x00FFC0; EEPROM has none."
-pub erase_legal : (a : ℕ) → Exactly (ruled a 0x03 ≡ in_flash a) (Block a) × ((Block a → ⊥) → ruled a 0x03 ≡ Illegal)
+pub erase_legal : (a : ℕ) → Exactly (ruled a 0x03 ≡ in_flash a) (Block a) × ((Block a → ⊥) → ruled a 0x03 ≡ None)
 unfolding ruled
 erase_legal a = (one_exactly 64 0x001000 0x00FFC0 a, one_else 64 0x001000 0x00FFC0 a)
 
 -- any other command is illegal at every number
-pub other_illegal : (a command : ℕ) → (command ≡ 0x01 → ⊥) → (command ≡ 0x02 → ⊥) → (command ≡ 0x03 → ⊥) → ruled a command ≡ Illegal
+pub other_illegal : (a command : ℕ) → (command ≡ 0x01 → ⊥) → (command ≡ 0x02 → ⊥) → (command ≡ 0x03 → ⊥) → ruled a command ≡ None
 unfolding ruled
 other_illegal a command r w e =
-    by_cond (λ (x : Ruled). x ≡ Illegal) (eqb command 0x01) _ _ (λ t. absurd (r (eqb-true command 0x01 t)))
+    by_cond (λ (x : Option Address). x ≡ None) (eqb command 0x01) _ _ (λ t. absurd (r (eqb-true command 0x01 t)))
     (λ _.
-    by_cond (λ (x : Ruled). x ≡ Illegal) (eqb command 0x02) _ _ (λ t. absurd (w (eqb-true command 0x02 t)))
-    (λ _. by_cond (λ (x : Ruled). x ≡ Illegal) (eqb command 0x03) _ _ (λ t. absurd (e (eqb-true command 0x03 t))) (λ _. refl)))
+    by_cond (λ (x : Option Address). x ≡ None) (eqb command 0x02) _ _ (λ t. absurd (w (eqb-true command 0x02 t)))
+    (λ _. by_cond (λ (x : Option Address). x ≡ None) (eqb command 0x03) _ _ (λ t. absurd (e (eqb-true command 0x03 t))) (λ _. refl)))
 
 -- the ends of each range, and what lies one step outside and one number beside them
 pub ends : (map (λ a. ruled a 0x01) (0x000FF8 ∷ 0x001000 ∷ 0x001004 ∷ 0x00FFF8 ∷ 0x010000 ∷ [])
-    ≡ Illegal ∷ in_flash 0x001000 ∷ Illegal ∷ in_flash 0x00FFF8 ∷ Illegal ∷ [])
+    ≡ None ∷ in_flash 0x001000 ∷ None ∷ in_flash 0x00FFF8 ∷ None ∷ [])
     × (map (λ a. ruled a 0x01) (0xEFFFF8 ∷ 0xF00000 ∷ 0xF00004 ∷ 0xF003F8 ∷ 0xF00400 ∷ [])
-    ≡ Illegal ∷ in_eeprom 0xF00000 ∷ Illegal ∷ in_eeprom 0xF003F8 ∷ Illegal ∷ [])
+    ≡ None ∷ in_eeprom 0xF00000 ∷ None ∷ in_eeprom 0xF003F8 ∷ None ∷ [])
     × (map (λ a. ruled a 0x02) (0x000FF8 ∷ 0x001000 ∷ 0x001004 ∷ 0x00FFF8 ∷ 0x010000 ∷ [])
-    ≡ Illegal ∷ in_flash 0x001000 ∷ Illegal ∷ in_flash 0x00FFF8 ∷ Illegal ∷ [])
+    ≡ None ∷ in_flash 0x001000 ∷ None ∷ in_flash 0x00FFF8 ∷ None ∷ [])
     × (map (λ a. ruled a 0x02) (0xEFFFF8 ∷ 0xF00000 ∷ 0xF00004 ∷ 0xF003F8 ∷ 0xF00400 ∷ [])
-    ≡ Illegal ∷ in_eeprom 0xF00000 ∷ Illegal ∷ in_eeprom 0xF003F8 ∷ Illegal ∷ [])
+    ≡ None ∷ in_eeprom 0xF00000 ∷ None ∷ in_eeprom 0xF003F8 ∷ None ∷ [])
     × (map (λ a. ruled a 0x03) (0x000FC0 ∷ 0x001000 ∷ 0x001008 ∷ 0x00FFC0 ∷ 0x00FFC8 ∷ 0x00FFF8 ∷ 0xF00000 ∷ [])
-    ≡ Illegal ∷ in_flash 0x001000 ∷ Illegal ∷ in_flash 0x00FFC0 ∷ Illegal ∷ Illegal ∷ Illegal ∷ [])
+    ≡ None ∷ in_flash 0x001000 ∷ None ∷ in_flash 0x00FFC0 ∷ None ∷ None ∷ None ∷ [])
 unfolding ruled
 ends = (refl, refl, refl, refl, refl)
 

@@ -4,6 +4,7 @@
 -- to erase; only the laws of the parts look at their bounds.
 -- No law of another crate opens the rule: beside these, only examples that are computed do.
 -- Assumes nothing.
+use Rattle.std.specs.Prelude.{Option, Some, None}
 use mathlib.Core.Path.{◌≡◌, refl, ap, sym}
 use mathlib.Core.Bool.{Bool, true, false, false≢true}
 use Prim.Native.Nat.{ℕ, ◌+◌, ◌-◌, ◌*◌, ◌%◌, ◌≤◌, ◌<◌}
@@ -14,11 +15,10 @@ use lib.Dec.{leb, eqb}
 use borrow.Author.Tests.{leb-true, ltb-true, ltb-false, eqb-true, eq-eqb, le-leb, lt-leb, lt-ltb}
 use Rattle.base.proofs.Choice.{by_cond, both_true, true_both}
 use Rattle.memory_address.specs.declared.Address.TheVariants.{Flash, Eeprom}
-use Rattle.memory_address.specs.declared.Ruled.{Ruled}
-use Rattle.memory_address.specs.declared.Ruled.TheVariants.{Legal, Illegal}
 use Rattle.memory_address.specs.Rule.{multiple_in, rim, last_flash_row, last_block, first_eeprom_row, last_eeprom_row, cells_of}
 use Rattle.memory_address.specs.Rule.{in_flash, in_eeprom, row_of, read_row, write_row, block_of, ruled, protected}
 use Rattle.memory_address.specs.Rule.{is_flash, is_eeprom, is_legal, legal_flash, legal_eeprom, numbered}
+use Rattle.memory_address.specs.declared.Address.{Address}
 
 multiple_in_lem : (step low high a : ℕ) → multiple_in step low high a ≡ true → (low ≤ a) × (a ≤ high) × (a % step ≡ 0)
 multiple_in_lem step low high a e =
@@ -31,10 +31,10 @@ in_multiple step low high a l h m =
     true_both (leb low a) _ (le-leb low a l) (true_both (leb a high) _ (le-leb a high h) (eq-eqb (a % step) 0 m))
 
 -- what is known of the rule's answer for n cells at a: in FLASH above the rim, or in EEPROM, and within it
-abbrev pub Within : ℕ → ℕ → Ruled → Type 0
-Within n a (Legal (Flash f)) = (f.0 ≡ a) × (0x001000 ≤ a) × (a + n ≤ 0x010000)
-Within n a (Legal (Eeprom e)) = (e.0 ≡ a) × (0xF00000 ≤ a) × (a + n ≤ 0xF00400)
-Within n a Illegal = Unit {0}
+abbrev pub Within : ℕ → ℕ → Option Address → Type 0
+Within n a (Some (Flash f)) = (f.0 ≡ a) × (0x001000 ≤ a) × (a + n ≤ 0x010000)
+Within n a (Some (Eeprom e)) = (e.0 ≡ a) × (0xF00000 ≤ a) × (a + n ≤ 0xF00400)
+Within n a None = Unit {0}
 
 -- ---- the three parts: the row to read, the row to write, the block to erase
 
@@ -62,18 +62,18 @@ block_within a =
 -- whether a row lies in FLASH, or in EEPROM, is one test: a number that is a row of FLASH is no row of EEPROM
 row_flash : (a : ℕ) → is_flash (row_of a) ≡ multiple_in 8 rim last_flash_row a
 row_flash a =
-    by_cond (λ (r : Ruled). is_flash r ≡ multiple_in 8 rim last_flash_row a) (multiple_in 8 rim last_flash_row a) _ _
+    by_cond (λ (r : Option Address). is_flash r ≡ multiple_in 8 rim last_flash_row a) (multiple_in 8 rim last_flash_row a) _ _
     (λ t. sym t)
     (λ f.
-    by_cond (λ (r : Ruled). is_flash r ≡ multiple_in 8 rim last_flash_row a) (multiple_in 8 first_eeprom_row last_eeprom_row a) _ _
+    by_cond (λ (r : Option Address). is_flash r ≡ multiple_in 8 rim last_flash_row a) (multiple_in 8 first_eeprom_row last_eeprom_row a) _ _
     (λ _. sym f) (λ _. sym f))
 
 row_eeprom : (a : ℕ) → is_eeprom (row_of a) ≡ multiple_in 8 first_eeprom_row last_eeprom_row a
 row_eeprom a =
-    by_cond (λ (r : Ruled). is_eeprom r ≡ multiple_in 8 first_eeprom_row last_eeprom_row a) (multiple_in 8 rim last_flash_row a) _ _
+    by_cond (λ (r : Option Address). is_eeprom r ≡ multiple_in 8 first_eeprom_row last_eeprom_row a) (multiple_in 8 rim last_flash_row a) _ _
     (λ t. let m = multiple_in_lem 8 rim last_flash_row a t in simp (lt-leb first_eeprom_row a (omega arith)))
     (λ _.
-    by_cond (λ (r : Ruled). is_eeprom r ≡ multiple_in 8 first_eeprom_row last_eeprom_row a) (multiple_in 8 first_eeprom_row last_eeprom_row a) _ _
+    by_cond (λ (r : Option Address). is_eeprom r ≡ multiple_in 8 first_eeprom_row last_eeprom_row a) (multiple_in 8 first_eeprom_row last_eeprom_row a) _ _
     (λ t. sym t) (λ f. sym f))
 
 -- and so for each part: these are the tests of `legal_flash` and `legal_eeprom`
@@ -91,7 +91,7 @@ write_eeprom_lem a = row_eeprom a
 
 pub block_flash : (a : ℕ) → is_flash (block_of a) ≡ multiple_in 64 rim last_block a
 block_flash a =
-    by_cond (λ (r : Ruled). is_flash r ≡ multiple_in 64 rim last_block a) (multiple_in 64 rim last_block a) _ _ (λ t. sym t) (λ f. sym f)
+    by_cond (λ (r : Option Address). is_flash r ≡ multiple_in 64 rim last_block a) (multiple_in 64 rim last_block a) _ _ (λ t. sym t) (λ f. sym f)
 
 -- a row of FLASH from the rim on may be written
 in_write : (a : ℕ) → 0x001000 ≤ a → a < 0x010000 → a % 8 ≡ 0 → is_flash (write_row a) ≡ true
@@ -100,7 +100,7 @@ in_write a l h m = rw (in_multiple 8 rim last_flash_row a (omega arith) (omega a
 -- what a block that may be erased is
 block_in : (a : ℕ) → is_flash (block_of a) ≡ true → (rim ≤ a) × (a ≤ last_block) × (a % 64 ≡ 0)
 block_in a =
-    by_cond (λ (r : Ruled). is_flash r ≡ true → (rim ≤ a) × (a ≤ last_block) × (a % 64 ≡ 0)) (multiple_in 64 rim last_block a) _ _
+    by_cond (λ (r : Option Address). is_flash r ≡ true → (rim ≤ a) × (a ≤ last_block) × (a % 64 ≡ 0)) (multiple_in 64 rim last_block a) _ _
     (λ e _. multiple_in_lem 64 rim last_block a e) (λ _ t. absurd (false≢true t))
 
 block_writable : (a i : ℕ) → is_flash (block_of a) ≡ true → i < 8 → is_flash (write_row (a + 8 * i)) ≡ true
@@ -115,7 +115,7 @@ block_readable : (a : ℕ) → is_flash (block_of a) ≡ true → is_flash (read
 block_readable a t = write_readable a (let m = block_in a t in in_write a (omega arith) (omega arith) (omega arith))
 
 no_eeprom_block : (a : ℕ) → is_eeprom (block_of a) ≡ false
-no_eeprom_block a = by_cond (λ (r : Ruled). is_eeprom r ≡ false) (multiple_in 64 rim last_block a) _ _ (λ _. refl) (λ _. refl)
+no_eeprom_block a = by_cond (λ (r : Option Address). is_eeprom r ≡ false) (multiple_in 64 rim last_block a) _ _ (λ _. refl) (λ _. refl)
 
 eeprom_write_readable : (a : ℕ) → is_eeprom (write_row a) ≡ true → is_eeprom (read_row a) ≡ true
 eeprom_write_readable a t = t
@@ -130,10 +130,10 @@ write_spares : (a c : ℕ) → is_flash (write_row a) ≡ true → protected c �
 unfolding protected
 write_spares a c t p = let l = ltb-true c rim p in inl (go (write_row a) t (write_within a) l)
   where
-    go : (r : Ruled) → is_flash r ≡ true → Within 8 a r → c < rim → c < a
-    go (Legal (Flash f)) e w l = omega arith
-    go (Legal (Eeprom x)) e w l = absurd (false≢true e)
-    go Illegal e w l = absurd (false≢true e)
+    go : (r : Option Address) → is_flash r ≡ true → Within 8 a r → c < rim → c < a
+    go (Some (Flash f)) e w l = omega arith
+    go (Some (Eeprom x)) e w l = absurd (false≢true e)
+    go None e w l = absurd (false≢true e)
 
 block_spares : (a c : ℕ) → is_flash (block_of a) ≡ true → protected c ≡ true → (c < a) ⊎ (a + 64 ≤ c)
 unfolding protected
@@ -147,8 +147,8 @@ unprotected_writable c l p = let h = ltb-false c rim p in in_write (c - c % 8) (
 -- ---- the rule, by its parts
 
 -- what holds of each part, and where nothing is legal, holds of the rule
-by_command : (P : Ruled → Type 0) (a command : ℕ) → (command ≡ 0x01 → P (read_row a)) → (command ≡ 0x02 → P (write_row a))
-    → (command ≡ 0x03 → P (block_of a)) → P Illegal → P (ruled a command)
+by_command : (P : Option Address → Type 0) (a command : ℕ) → (command ≡ 0x01 → P (read_row a)) → (command ≡ 0x02 → P (write_row a))
+    → (command ≡ 0x03 → P (block_of a)) → P None → P (ruled a command)
 unfolding ruled
 by_command P a command r w b n =
     by_cond P (eqb command 0x01) _ _ (λ t. r (eqb-true command 0x01 t))
@@ -178,18 +178,18 @@ ruled_within a command =
 pub flash_ruled : (a command : ℕ) → legal_flash a command ≡ true → ruled a command ≡ in_flash a
 flash_ruled a command h = go (ruled a command) h (ruled_within a command)
   where
-    go : (r : Ruled) → is_flash r ≡ true → Within (cells_of command) a r → r ≡ in_flash a
-    go (Legal (Flash f)) t w = ap in_flash w.0
-    go (Legal (Eeprom e)) t w = cc
-    go Illegal t w = cc
+    go : (r : Option Address) → is_flash r ≡ true → Within (cells_of command) a r → r ≡ in_flash a
+    go (Some (Flash f)) t w = ap in_flash w.0
+    go (Some (Eeprom e)) t w = cc
+    go None t w = cc
 
 pub eeprom_ruled : (a command : ℕ) → legal_eeprom a command ≡ true → ruled a command ≡ in_eeprom a
 eeprom_ruled a command h = go (ruled a command) h (ruled_within a command)
   where
-    go : (r : Ruled) → is_eeprom r ≡ true → Within (cells_of command) a r → r ≡ in_eeprom a
-    go (Legal (Flash f)) t w = cc
-    go (Legal (Eeprom e)) t w = ap in_eeprom w.0
-    go Illegal t w = cc
+    go : (r : Option Address) → is_eeprom r ≡ true → Within (cells_of command) a r → r ≡ in_eeprom a
+    go (Some (Flash f)) t w = cc
+    go (Some (Eeprom e)) t w = ap in_eeprom w.0
+    go None t w = cc
 
 pub flash_within : (a command : ℕ) → legal_flash a command ≡ true → (0x001000 ≤ a) × (a + cells_of command ≤ 0x010000)
 flash_within a command h =
@@ -208,11 +208,11 @@ no_eeprom_erase a = rw (erase_ruled a) (no_eeprom_block a)
 -- a command other than read, write and erase is legal nowhere, and on EEPROM neither is an erase
 pub no_other_flash : (a command : ℕ) → (command ≡ 0x01 → ⊥) → (command ≡ 0x02 → ⊥) → (command ≡ 0x03 → ⊥) → legal_flash a command ≡ false
 no_other_flash a command r w b =
-    by_command (λ (x : Ruled). is_flash x ≡ false) a command (λ e. absurd (r e)) (λ e. absurd (w e)) (λ e. absurd (b e)) refl
+    by_command (λ (x : Option Address). is_flash x ≡ false) a command (λ e. absurd (r e)) (λ e. absurd (w e)) (λ e. absurd (b e)) refl
 
 pub no_other_eeprom : (a command : ℕ) → (command ≡ 0x01 → ⊥) → (command ≡ 0x02 → ⊥) → legal_eeprom a command ≡ false
 no_other_eeprom a command r w =
-    by_command (λ (x : Ruled). is_eeprom x ≡ false) a command (λ e. absurd (r e)) (λ e. absurd (w e)) (λ _. no_eeprom_block a) refl
+    by_command (λ (x : Option Address). is_eeprom x ≡ false) a command (λ e. absurd (r e)) (λ e. absurd (w e)) (λ _. no_eeprom_block a) refl
 
 -- the eight rows of a block that may be erased may be written
 pub block_rows : (a i : ℕ) → legal_flash a 0x03 ≡ true → i < 8 → legal_flash (a + 8 * i) 0x02 ≡ true
@@ -222,13 +222,13 @@ block_rows a i h l = rw (write_ruled (a + 8 * i)) (block_writable a i (rw (erase
 pub flash_readable : (a command : ℕ) → legal_flash a command ≡ true → legal_flash a 0x01 ≡ true
 flash_readable a command =
     rw (read_ruled a)
-    (by_command (λ (r : Ruled). is_flash r ≡ true → is_flash (read_row a) ≡ true) a command
+    (by_command (λ (r : Option Address). is_flash r ≡ true → is_flash (read_row a) ≡ true) a command
     (λ _ t. t) (λ _ t. write_readable a t) (λ _ t. block_readable a t) (λ t. absurd (false≢true t)))
 
 pub eeprom_readable : (a command : ℕ) → legal_eeprom a command ≡ true → legal_eeprom a 0x01 ≡ true
 eeprom_readable a command =
     rw (read_ruled a)
-    (by_command (λ (r : Ruled). is_eeprom r ≡ true → is_eeprom (read_row a) ≡ true) a command
+    (by_command (λ (r : Option Address). is_eeprom r ≡ true → is_eeprom (read_row a) ≡ true) a command
     (λ _ t. t) (λ _ t. eeprom_write_readable a t) (λ _ t. absurd (false≢true (rw (no_eeprom_block a) at t)))
     (λ t. absurd (false≢true t)))
 
@@ -236,7 +236,7 @@ eeprom_readable a command =
 pub spares_protected : (a command c : ℕ) → legal_flash a command ≡ true → (command ≡ 0x01 → ⊥) → protected c ≡ true
     → (c < a) ⊎ (a + cells_of command ≤ c)
 spares_protected a command c h unread p =
-    by_command (λ (r : Ruled). is_flash r ≡ true → (c < a) ⊎ (a + cells_of command ≤ c)) a command
+    by_command (λ (r : Option Address). is_flash r ≡ true → (c < a) ⊎ (a + cells_of command ≤ c)) a command
     (λ e _. absurd (unread e)) (λ e t. rw e (write_spares a c t p)) (λ e t. rw e (block_spares a c t p)) (λ t. absurd (false≢true t)) h
 
 -- and every other cell of FLASH is covered by one: the write of its row
@@ -252,5 +252,5 @@ zero_numbered false legal e = absurd (suc-ne-zero 0 e)
 -- a command that is legal anywhere is read, write or erase
 pub legal_command : (a command : ℕ) → is_legal (ruled a command) ≡ true → (command ≡ 0x01) ⊎ ((command ≡ 0x02) ⊎ (command ≡ 0x03))
 legal_command a command =
-    by_command (λ (r : Ruled). is_legal r ≡ true → (command ≡ 0x01) ⊎ ((command ≡ 0x02) ⊎ (command ≡ 0x03))) a command
+    by_command (λ (r : Option Address). is_legal r ≡ true → (command ≡ 0x01) ⊎ ((command ≡ 0x02) ⊎ (command ≡ 0x03))) a command
     (λ e _. inl e) (λ e _. inr (inl e)) (λ e _. inr (inr e)) (λ t. absurd (false≢true t))

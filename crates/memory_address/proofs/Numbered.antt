@@ -1,6 +1,7 @@
 -- Document 01's number for what `rule` answers, over its real contract: 0 at every row or block that document 01 names, 8 elsewhere. The
 -- contract is the rule, whose laws from both sides (BothSides) say where it is legal.
 -- Assumes nothing.
+use Rattle.std.specs.Prelude.{Option, None}
 use mathlib.Core.Path.{◌≡◌, ◌∙◌, ap}
 use mathlib.Core.Logic.{◌⊎◌, ⊎_elim}
 use Prim.Native.Nat.{ℕ}
@@ -8,26 +9,25 @@ use contract.Lifetimes.{Lfts}
 use borrow.Fn.World.{ArgsD, ResD}
 use denote.Triple.Clauses.{AtExit}
 use borrow.Fn.Kinds.{ended_of}
-use Rattle.memory_address.specs.declared.Ruled.{Ruled}
-use Rattle.memory_address.specs.declared.Ruled.TheVariants.{Illegal}
 use Rattle.memory_address.specs.Rule.{in_flash, in_eeprom, ruled, ruled_number}
 use Rattle.memory_address.specs.Ranges.{Exactly, FlashRow, EepromRow, Block}
 use Rattle.memory_address.proofs.BothSides.{read_legal, write_legal, erase_legal, other_illegal}
 use Rattle.memory_address.specs.contracts.rule.{signature}
 use Rattle.memory_address.proofs.rule.Kinds as kinds
 use Rattle.memory_address.proofs.rule.Reads as reads
+use Rattle.memory_address.specs.declared.Address.{Address}
 
 -- the number of an answer that is what a law of rows says
-module _ (x : ℕ) (r : Ruled) where
+module _ (x : ℕ) (r : Option Address) where
   by_row : Exactly (r ≡ in_flash x) (FlashRow x) × Exactly (r ≡ in_eeprom x) (EepromRow x)
-      × ((FlashRow x → ⊥) → (EepromRow x → ⊥) → r ≡ Illegal)
+      × ((FlashRow x → ⊥) → (EepromRow x → ⊥) → r ≡ None)
       → (FlashRow x ⊎ EepromRow x → ruled_number r ≡ 0) × ((FlashRow x → ⊥) → (EepromRow x → ⊥) → ruled_number r ≡ 8)
   by_row law = (
     ⊎_elim (λ f. ap ruled_number (law.0.1 f)) (λ e. ap ruled_number (law.1.1 e)),
     λ n n'. ap ruled_number (law.2 n n'),
   )
 
-  by_block : Exactly (r ≡ in_flash x) (Block x) × ((Block x → ⊥) → r ≡ Illegal)
+  by_block : Exactly (r ≡ in_flash x) (Block x) × ((Block x → ⊥) → r ≡ None)
       → (Block x → ruled_number r ≡ 0) × ((Block x → ⊥) → ruled_number r ≡ 8)
   by_block law = (λ b. ap ruled_number (law.0.1 b), λ n. ap ruled_number (law.1 n))
 

@@ -1,9 +1,8 @@
 -- The address rule of document 01: "Legal rows (001, 5.7)". This is the one place where it stands. Proofs cite its laws, in
 -- proofs/Laws.antt; only examples that are computed open it.
-use Rattle.std.specs.Prelude.{ℕ, ◌%◌, Bool, true, false, ◌&&◌, cond, leb, ltb, eqb}
+use Rattle.std.specs.Prelude.{ℕ, ◌%◌, Bool, true, false, ◌&&◌, cond, leb, ltb, eqb, Option, Some, None}
 use Rattle.memory_address.specs.declared.Address.TheVariants.{Flash, Eeprom}
-use Rattle.memory_address.specs.declared.Ruled.{Ruled}
-use Rattle.memory_address.specs.declared.Ruled.TheVariants.{Legal, Illegal}
+use Rattle.memory_address.specs.declared.Address.{Address}
 
 -- a multiple of step from low to high, both in it
 abbrev pub multiple_in : ℕ → ℕ → ℕ → ℕ → Bool
@@ -26,33 +25,33 @@ first_eeprom_row = 0xF00000
 abbrev pub last_eeprom_row : ℕ
 last_eeprom_row = 0xF003F8
 
-abbrev pub in_flash : ℕ → Ruled
-in_flash a = Legal (Flash (record { 0 = a }))
+abbrev pub in_flash : ℕ → Option Address
+in_flash a = Some (Flash (record { 0 = a }))
 
-abbrev pub in_eeprom : ℕ → Ruled
-in_eeprom a = Legal (Eeprom (record { 0 = a }))
+abbrev pub in_eeprom : ℕ → Option Address
+in_eeprom a = Some (Eeprom (record { 0 = a }))
 
 -- a row of either memory
-abbrev pub row_of : ℕ → Ruled
+abbrev pub row_of : ℕ → Option Address
 row_of a =
-    cond (multiple_in 8 rim last_flash_row a) (in_flash a) (cond (multiple_in 8 first_eeprom_row last_eeprom_row a) (in_eeprom a) Illegal)
+    cond (multiple_in 8 rim last_flash_row a) (in_flash a) (cond (multiple_in 8 first_eeprom_row last_eeprom_row a) (in_eeprom a) None)
 
 -- "read 0x01 and write 0x02 at multiples of 8, in 0x001000 to 0x00FFF8 or 0xF00000 to 0xF003F8": the row that may be read
-abbrev pub read_row : ℕ → Ruled
+abbrev pub read_row : ℕ → Option Address
 read_row a = row_of a
 
 -- and the row that may be written
-abbrev pub write_row : ℕ → Ruled
+abbrev pub write_row : ℕ → Option Address
 write_row a = row_of a
 
 -- "Erase 0x03 at multiples of 64 in 0x001000 to 0x00FFC0; EEPROM has none."
-abbrev pub block_of : ℕ → Ruled
-block_of a = cond (multiple_in 64 rim last_block a) (in_flash a) Illegal
+abbrev pub block_of : ℕ → Option Address
+block_of a = cond (multiple_in 64 rim last_block a) (in_flash a) None
 
 -- the rule: what a command may work on at a number
-unfoldable pub ruled : ℕ → ℕ → Ruled
+unfoldable pub ruled : ℕ → ℕ → Option Address
 ruled a command =
-    cond (eqb command 0x01) (read_row a) (cond (eqb command 0x02) (write_row a) (cond (eqb command 0x03) (block_of a) Illegal))
+    cond (eqb command 0x01) (read_row a) (cond (eqb command 0x02) (write_row a) (cond (eqb command 0x03) (block_of a) None))
 
 -- how many cells a command works on: "Erase sets 64 cells", and else a row's eight
 abbrev pub cells_of : ℕ → ℕ
@@ -63,20 +62,20 @@ unfoldable pub protected : ℕ → Bool
 protected cell = ltb cell rim
 
 -- whether what the rule says lies in FLASH, or in EEPROM
-abbrev pub is_flash : Ruled → Bool
-is_flash (Legal (Flash f)) = true
-is_flash (Legal (Eeprom e)) = false
-is_flash Illegal = false
+abbrev pub is_flash : Option Address → Bool
+is_flash (Some (Flash f)) = true
+is_flash (Some (Eeprom e)) = false
+is_flash None = false
 
-abbrev pub is_eeprom : Ruled → Bool
-is_eeprom (Legal (Flash f)) = false
-is_eeprom (Legal (Eeprom e)) = true
-is_eeprom Illegal = false
+abbrev pub is_eeprom : Option Address → Bool
+is_eeprom (Some (Flash f)) = false
+is_eeprom (Some (Eeprom e)) = true
+is_eeprom None = false
 
 -- whether the rule lets the command work at all
-abbrev pub is_legal : Ruled → Bool
-is_legal (Legal a) = true
-is_legal Illegal = false
+abbrev pub is_legal : Option Address → Bool
+is_legal (Some a) = true
+is_legal None = false
 
 -- whether a command is legal on FLASH, or on EEPROM, at a number
 abbrev pub legal_flash : ℕ → ℕ → Bool
@@ -86,9 +85,9 @@ abbrev pub legal_eeprom : ℕ → ℕ → Bool
 legal_eeprom a command = is_eeprom (ruled a command)
 
 -- document 01's number for what the rule says: 0, and 8 for an "illegal address or command"
-abbrev pub ruled_number : Ruled → ℕ
-ruled_number (Legal a) = 0
-ruled_number Illegal = 8
+abbrev pub ruled_number : Option Address → ℕ
+ruled_number (Some a) = 0
+ruled_number None = 8
 
 -- the number of a call that works at an address: 1 for a memory of the wrong length, then 8 for an illegal address, else 0
 abbrev pub numbered : Bool → Bool → ℕ

@@ -27,13 +27,6 @@ pub enum Address {
     Eeprom(EepromPlace),
 }
 
-// What the address rule says of a command at a number.
-#[derive(Clone, Copy)]
-pub enum Ruled {
-    Legal(Address),
-    Illegal,
-}
-
 // The commands.
 pub const READ: u32 = 0x01;
 
@@ -97,41 +90,41 @@ fn multiple_in(step: u32, low: u32, high: u32, a: u32) -> bool
 }
 
 // A row that may be read or written: a number up to the last row of FLASH can only be FLASH's, one above it only EEPROM's.
-fn row_of(a: u32) -> Ruled
+fn row_of(a: u32) -> Option<Address>
     ensures { result ≡ row_of a }
 {
     if a <= LAST_FLASH_ROW {
         if multiple_in(8, RIM, LAST_FLASH_ROW, a) {
-            return Ruled::Legal(Address::Flash(FlashAddress(a)));
+            return Some(Address::Flash(FlashAddress(a)));
         }
-        return Ruled::Illegal;
+        return None;
     }
     if multiple_in(8, EEPROM_FIRST, LAST_EEPROM_ROW, a) {
-        return Ruled::Legal(Address::Eeprom(EepromPlace(a)));
+        return Some(Address::Eeprom(EepromPlace(a)));
     }
-    Ruled::Illegal
+    None
 }
 
 // A block that may be erased.
-fn block_of(a: u32) -> Ruled
+fn block_of(a: u32) -> Option<Address>
     ensures { result ≡ block_of a }
 {
     if multiple_in(64, RIM, LAST_BLOCK, a) {
-        return Ruled::Legal(Address::Flash(FlashAddress(a)));
+        return Some(Address::Flash(FlashAddress(a)));
     }
-    Ruled::Illegal
+    None
 }
 
-// The address rule: the cells that a command may work on at a number, or Illegal. Numbers of more than 24 bits and commands other
-// than read, write and erase are illegal.
-pub fn rule(address: u32, command: u32) -> Ruled
+// The address rule: the cells that a command may work on at a number, or none where address or command is illegal. Numbers of more than
+// 24 bits and commands other than read, write and erase are illegal.
+pub fn rule(address: u32, command: u32) -> Option<Address>
     ensures { result ≡ ruled address command }
 {
     match command {
         0x01 => row_of(address),
         0x02 => row_of(address),
         0x03 => block_of(address),
-        _ => Ruled::Illegal,
+        _ => None,
     }
 }
 

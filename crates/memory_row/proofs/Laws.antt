@@ -1,5 +1,6 @@
 -- The laws of a shown row: eight cells where the number is 0, none where it isn't; of which memory, and where they lie.
 -- Assumes nothing.
+use Rattle.std.specs.Prelude.{Option, Some, None}
 use mathlib.Core.Path.{◌≡◌, refl}
 use mathlib.Core.Bool.{Bool, true, false, cond}
 use mathlib.Core.List.{List, []}
@@ -16,10 +17,9 @@ use Rattle.base.proofs.Patched.{part_length}
 use Rattle.memory_address.specs.Places.{full, eeprom_cell}
 use Rattle.memory_address.specs.Rule.{ruled, ruled_number, legal_flash, legal_eeprom}
 use Rattle.memory_address.specs.declared.Address.TheVariants.{Flash, Eeprom}
-use Rattle.memory_address.specs.declared.Ruled.{Ruled}
-use Rattle.memory_address.specs.declared.Ruled.TheVariants.{Legal, Illegal}
 use Rattle.memory_address.proofs.Laws.{Within, ruled_within, flash_ruled, eeprom_ruled}
 use Rattle.memory_row.specs.Shown.{row_at, shown, shown_at, shown_number}
+use Rattle.memory_address.specs.declared.Address.{Address}
 
 full_lengths : (flash eeprom : List ℕ) → full flash eeprom ≡ true → (length flash ≡ 65536) × (length eeprom ≡ 1024)
 full_lengths flash eeprom e =
@@ -31,12 +31,12 @@ pub eight_shown : (flash eeprom : List ℕ) (a : ℕ) → shown_number flash eep
 unfolding shown shown_number
 eight_shown flash eeprom a e = go (full flash eeprom) refl (ruled a 0x01) (ruled_within a 0x01) e
   where
-    go : (b : Bool) → full flash eeprom ≡ b → (r : Ruled) → Within 8 a r → cond b (ruled_number r) 1 ≡ 0
+    go : (b : Bool) → full flash eeprom ≡ b → (r : Option Address) → Within 8 a r → cond b (ruled_number r) 1 ≡ 0
         → length (cond b (row_at flash eeprom r) []) ≡ 8
-    go true t (Legal (Flash f)) w z = let l = full_lengths flash eeprom t in part_length flash f.0 8 (omega arith)
-    go true t (Legal (Eeprom p)) w z =
+    go true t (Some (Flash f)) w z = let l = full_lengths flash eeprom t in part_length flash f.0 8 (omega arith)
+    go true t (Some (Eeprom p)) w z =
         let l = full_lengths flash eeprom t in part_length eeprom (eeprom_cell p.0) 8 (omega arith)
-    go true t Illegal w z = absurd (suc-ne-zero 7 z)
+    go true t None w z = absurd (suc-ne-zero 7 z)
     go false t r w z = absurd (suc-ne-zero 0 z)
 
 -- with another number it is empty
@@ -44,9 +44,9 @@ pub none_shown : (flash eeprom : List ℕ) (a : ℕ) → (shown_number flash eep
 unfolding shown shown_number
 none_shown flash eeprom a n = go (full flash eeprom) (ruled a 0x01) n
   where
-    go : (b : Bool) (r : Ruled) → (cond b (ruled_number r) 1 ≡ 0 → ⊥) → cond b (row_at flash eeprom r) [] ≡ []
-    go true (Legal x) m = absurd (m refl)
-    go true Illegal m = refl
+    go : (b : Bool) (r : Option Address) → (cond b (ruled_number r) 1 ≡ 0 → ⊥) → cond b (row_at flash eeprom r) [] ≡ []
+    go true (Some x) m = absurd (m refl)
+    go true None m = refl
     go false r m = refl
 
 -- over full memories: the row of FLASH, and of EEPROM

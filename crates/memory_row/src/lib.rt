@@ -4,7 +4,7 @@
 ghost use Rattle.std.specs.Prelude.{◌≡◌};
 ghost use Rattle.memory_row.specs.Shown.{shown, shown_at, shown_number};
 
-use memory_address::{Address, EEPROM_CELLS, EEPROM_FIRST, FLASH_CELLS, READ, Ruled};
+use memory_address::{Address, EEPROM_CELLS, EEPROM_FIRST, FLASH_CELLS, READ};
 
 // The eight cells at an address that is legal to read. The part is empty where a memory has the wrong length or the address is
 // illegal to read; `show_number` says which.
@@ -19,7 +19,7 @@ pub fn show_row<'a>(flash: &'a [u8], eeprom: &'a [u8], at: u32) -> &'a [u8]
         return &flash[..0];
     }
     match memory_address::rule(at, READ) {
-        Ruled::Legal(cells) => match cells {
+        Some(cells) => match cells {
             Address::Flash(f) => {
                 let a = f.0 as usize;
                 &flash[a..a + 8]
@@ -29,7 +29,7 @@ pub fn show_row<'a>(flash: &'a [u8], eeprom: &'a [u8], at: u32) -> &'a [u8]
                 &eeprom[a..a + 8]
             }
         },
-        Ruled::Illegal => &flash[..0],
+        None => &flash[..0],
     }
 }
 
@@ -44,7 +44,7 @@ pub fn show_number(flash: &[u8], eeprom: &[u8], at: u32) -> u8
         return 1;
     }
     match memory_address::rule(at, READ) {
-        Ruled::Legal(_) => 0,
-        Ruled::Illegal => 8,
+        Some(_) => 0,
+        None => 8,
     }
 }

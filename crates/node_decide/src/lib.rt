@@ -7,12 +7,12 @@ ghost use Rattle.std.specs.Prelude.{◌≡◌};
 ghost use Rattle.node_rules.specs.Requests.{asked_by};
 ghost use Rattle.node_rules.specs.Outcomes.{unless, type_outcomes, decided};
 
-use node_rules::{Effect, Found, Kind, Node};
+use node_rules::{Effect, Kind, Node};
 
 // What a frame of a type that is in the table comes to: 6 and 7, then its request. A refusal leaves all as it is, but 8 nothing staged.
 fn accepted(k: Kind, n: Node, frame: &[u8]) -> Effect
-    ensures { result ≡ unless (type_outcomes (Found.Handled k) n frame.now)
-        (asked_by (Found.Handled k) n.mode frame.now) }
+    ensures { result ≡ unless (type_outcomes (Some k) n frame.now)
+        (asked_by (Some k) n.mode frame.now) }
 {
     let mode = n.mode;
     let plate = n.plate;
@@ -47,7 +47,7 @@ pub fn decide(n: Node, full: bool, frame: &[u8]) -> Effect
         return node_request::refuse(5);
     }
     match node_table::look_up(node_frame::type_of(frame)) {
-        Found::Handled(k) => accepted(k, n, frame),
-        Found::Unhandled => node_request::refuse(6),
+        Some(k) => accepted(k, n, frame),
+        None => node_request::refuse(6),
     }
 }

@@ -6,7 +6,7 @@ ghost use Rattle.memory_address.specs.Rule.{is_legal};
 ghost use Rattle.node_rules.specs.Requests.{D, address_in, ruled_in, command_at, staged_by, staged_in, does, doing, asked};
 ghost use Rattle.node_rules.specs.Outcomes.{outcome, refused, unless, is_nothing, request_outcomes};
 
-use memory_address::{Address, Ruled};
+use memory_address::Address;
 use node_rules::{Effect, Memory, Mode, Next, Reply, Request, Staged};
 
 // A refusal: no reply, and all as it is, but 8 leaves nothing staged.
@@ -82,12 +82,12 @@ fn stage(frame: &[u8]) -> Effect
     let at = address_in(frame);
     let command = base::byte_at(frame, 9);
     match memory_address::rule(at, command as u32) {
-        Ruled::Legal(a) => does(
+        Some(a) => does(
             Reply::Echoed,
             Memory::Kept,
             Next::Programs(command_at(command, a)),
         ),
-        Ruled::Illegal => refuse(8),
+        None => refuse(8),
     }
 }
 

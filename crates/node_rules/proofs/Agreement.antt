@@ -2,6 +2,7 @@
 -- frame gives on CAN, the replies wrapped. A byte is held behind those that are held, and the fifteenth is judged. What stays held after
 -- a wrong sum or stop is not looked into.
 -- Assumes nothing.
+use Rattle.std.specs.Prelude.{Option, Some, None}
 use mathlib.Core.Path.{◌≡◌, ◌∙◌, refl, sym, ap}
 use mathlib.Core.Bool.{Bool, true, false, not, cond}
 use mathlib.Core.List.{List, [], ◌∷◌, ◌++◌, append_assoc, append-nil}
@@ -18,8 +19,6 @@ use Rattle.frame_rules.specs.Frame.{type_of}
 use Rattle.frame_rules.specs.Wrapping.{wrapped_of, inner_of, rightly_wrapped}
 use Rattle.frame_rules.proofs.Wrapped.{wrapped_length, wrapped_inner, wrapped_right, right_says}
 use Rattle.node_rules.specs.declared.Pin.TheVariants.{CanAndUart}
-use Rattle.node_rules.specs.declared.Found.{Found}
-use Rattle.node_rules.specs.declared.Found.TheVariants.{Handled, Unhandled}
 use Rattle.node_rules.specs.declared.Node.{Node}
 use Rattle.node_rules.specs.declared.Effect.{Effect}
 use Rattle.node_rules.specs.Record.{holding, may_hold, held_in, held_of, tidy_mode, tidied, Holdable}
@@ -33,6 +32,7 @@ use Rattle.node_rules.proofs.Deciding.{among_cases, unless_by, frame_among, aske
 use Rattle.node_rules.proofs.Ruling.{sizes_full}
 use Rattle.node_rules.proofs.Modes.{tidy_deaf}
 use Rattle.node_rules.proofs.Running.{steps_append, end_append}
+use Rattle.node_rules.specs.declared.Kind.{Kind}
 
 pub collected_ten : (n : Node) (xs bs flash eeprom : List ℕ)
     → (length (collected n xs bs flash eeprom) ≡ length bs) × AllTen flash eeprom (collected n xs bs flash eeprom)
@@ -42,9 +42,9 @@ collected_ten n xs (b ∷ bs) flash eeprom =
     (ap suc r.0, (refl, refl, refl, refl, refl, r.1))
 
 -- what is held has no say in outcomes 4 to 9
-type_held : (k : Found) (n : Node) (xs f : List ℕ) → type_outcomes k (holding n xs) f ≡ type_outcomes k n f
-type_held Unhandled n xs f = refl
-type_held (Handled k) n xs f = refl
+type_held : (k : Option Kind) (n : Node) (xs f : List ℕ) → type_outcomes k (holding n xs) f ≡ type_outcomes k n f
+type_held None n xs f = refl
+type_held (Some k) n xs f = refl
 
 frame_held : (n : Node) (xs f : List ℕ) → unless (frame_outcomes (holding n xs) f) (asked_of n f) ≡ unless (frame_outcomes n f) (asked_of n f)
 frame_held n xs f =

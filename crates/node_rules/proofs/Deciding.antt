@@ -1,6 +1,7 @@
 -- The laws of the outcome table, of any list of outcomes and any effect behind it: the first that holds gives the number, a number but 0
 -- says what is decided, and what is shown of each outcome that can hold, and of the effect where none does, holds of what is decided.
 -- Assumes nothing.
+use Rattle.std.specs.Prelude.{Option, Some, None}
 use mathlib.Core.Path.{◌≡◌, refl, sym, subst}
 use mathlib.Core.Bool.{Bool, true, false, cond}
 use mathlib.Core.List.{List, [], ◌∷◌}
@@ -12,12 +13,11 @@ use Rattle.node_rules.specs.declared.Staged.TheVariants.{Nothing, Read, Write, E
 use Rattle.node_rules.specs.declared.Mode.{Mode}
 use Rattle.node_rules.specs.declared.Request.{Request}
 use Rattle.node_rules.specs.declared.Request.TheVariants.{EnterProgramming, WaitForRestart, HardwareType, FirmwareType, Description, DeviceId, LeaveProgramming, AddressFrame, DataFrame}
-use Rattle.node_rules.specs.declared.Found.{Found}
-use Rattle.node_rules.specs.declared.Found.TheVariants.{Handled, Unhandled}
 use Rattle.node_rules.specs.declared.Node.{Node}
 use Rattle.node_rules.specs.declared.Effect.{Effect}
 use Rattle.node_rules.specs.Requests.{found, staged_in, doing, asked, asked_by}
 use Rattle.node_rules.specs.Outcomes.{Outcome, refused, first_that, unless, request_outcomes, type_outcomes, frame_outcomes, asked_of}
+use Rattle.node_rules.specs.declared.Kind.{Kind}
 
 -- the number
 pub unless_number : (os : List Outcome) (e : Effect) → e.number ≡ 0 → (unless os e).number ≡ first_that os
@@ -69,9 +69,9 @@ asked_zero LeaveProgramming m f = refl
 asked_zero AddressFrame m f = refl
 asked_zero DataFrame m f = doing_zero (staged_in m)
 
-by_type_zero : (k : Found) (m : Mode) (f : List ℕ) → (asked_by k m f).number ≡ 0
-by_type_zero Unhandled m f = refl
-by_type_zero (Handled k) m f = asked_zero k.request m f
+by_type_zero : (k : Option Kind) (m : Mode) (f : List ℕ) → (asked_by k m f).number ≡ 0
+by_type_zero None m f = refl
+by_type_zero (Some k) m f = asked_zero k.request m f
 
 pub asked_of_zero : (n : Node) (f : List ℕ) → (asked_of n f).number ≡ 0
 asked_of_zero n f = by_type_zero (found (type_of f)) n.mode f
@@ -110,6 +110,6 @@ request_among Q DataFrame m f x y = (y, tt)
 pub frame_among : (Q : ℕ → Type 0) (n : Node) (f : List ℕ) → Q 4 → Q 5 → Q 6 → Q 7 → Q 8 → Q 9 → Among Q (frame_outcomes n f)
 frame_among Q n f q4 q5 q6 q7 q8 q9 = (q4, (q5, go (found (type_of f))))
   where
-    go : (k : Found) → Among Q (type_outcomes k n f)
-    go Unhandled = (q6, tt)
-    go (Handled k) = (q6, (q7, request_among Q k.request n.mode f q8 q9))
+    go : (k : Option Kind) → Among Q (type_outcomes k n f)
+    go None = (q6, tt)
+    go (Some k) = (q6, (q7, request_among Q k.request n.mode f q8 q9))

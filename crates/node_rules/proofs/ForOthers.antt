@@ -2,6 +2,7 @@
 -- whole table of handled types: a "group" type is one of five, handled in normal mode, and 0x010 alone is addressed by zeros; every other
 -- type is for the own numbers, and so gives 7.
 -- Assumes nothing.
+use Rattle.std.specs.Prelude.{Option, Some, None}
 use mathlib.Core.Path.{◌≡◌, ◌∙◌, refl, sym, ap}
 use mathlib.Core.Bool.{Bool, true, false, ◌&&◌, not, false≢true}
 use mathlib.Core.List.{List, [], ◌∷◌}
@@ -21,8 +22,6 @@ use Rattle.node_rules.specs.declared.Request.TheVariants.{EnterProgramming, Wait
 use Rattle.node_rules.specs.declared.Addressing.{Addressing}
 use Rattle.node_rules.specs.declared.Addressing.TheVariants.{AsGroup, AsNode, AllZero, OwnNumbers}
 use Rattle.node_rules.specs.declared.Kind.{Kind}
-use Rattle.node_rules.specs.declared.Found.{Found}
-use Rattle.node_rules.specs.declared.Found.TheVariants.{Handled, Unhandled}
 use Rattle.node_rules.specs.declared.Node.{Node}
 use Rattle.node_rules.specs.declared.Memory.{Memory}
 use Rattle.node_rules.specs.declared.Memory.TheVariants.{Kept, Bootfl}
@@ -87,16 +86,16 @@ unfolding handled_types all_fit fitting fits fits_group fits_zero in_normal
 table_fits = refl
 
 -- what is found fits, and has the type that was sought
-FoundFits : ℕ → Found → Type 0
-FoundFits t (Handled k) = (fitting k ≡ true) × (k.frame_type ≡ t)
-FoundFits t Unhandled = Unit {0}
+FoundFits : ℕ → Option Kind → Type 0
+FoundFits t (Some k) = (fitting k ≡ true) × (k.frame_type ≡ t)
+FoundFits t None = Unit {0}
 
 look_fits : (ks : List Kind) (t : ℕ) → all_fit ks ≡ true → FoundFits t (look_in ks t)
 unfolding FoundFits all_fit
 look_fits [] t e = tt
 look_fits (k ∷ ks) t e =
     let p = both_true (fitting k) (all_fit ks) e in
-    by_cond (FoundFits t) (eqb k.frame_type t) (Handled k) (look_in ks t) (λ q. (p.0, eqb-true k.frame_type t q))
+    by_cond (FoundFits t) (eqb k.frame_type t) (Some k) (look_in ks t) (λ q. (p.0, eqb-true k.frame_type t q))
     (λ _. look_fits ks t p.1)
 
 found_fits : (t : ℕ) → FoundFits t (found t)
@@ -164,11 +163,11 @@ module _ (t : ℕ) (n : Node) (f : List ℕ) (e : t ≡ type_of f) where
   by_addressing OwnNumbers r h w o i m = absurd (false≢true (sym o.1 ∙ i))
 
 -- a refusal leaves all unchanged
-type_others : (n : Node) (f : List ℕ) (k : Found) → FoundFits (type_of f) k → ForOthers n f
+type_others : (n : Node) (f : List ℕ) (k : Option Kind) → FoundFits (type_of f) k → ForOthers n f
     → Cases (FromOthers n f) (type_outcomes k n f) (asked_by k n.mode f)
 unfolding FoundFits fitting
-type_others n f Unhandled w o = (λ _. (inl refl, inl refl, inl refl), λ _. (inl refl, inl refl, inl refl))
-type_others n f (Handled k) w o = (
+type_others n f None w o = (λ _. (inl refl, inl refl, inl refl), λ _. (inl refl, inl refl, inl refl))
+type_others n f (Some k) w o = (
   λ _. (inl refl, inl refl, inl refl),
   λ h. (
     λ _. (inl refl, inl refl, inl refl),

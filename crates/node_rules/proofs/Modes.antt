@@ -2,6 +2,7 @@
 -- mode is never entered, and where a call leaves it so the mark stays. By what the table of handled types says of two requests, and the
 -- three cases of what becomes of the mode.
 -- Assumes nothing.
+use Rattle.std.specs.Prelude.{Option, Some, None}
 use mathlib.Core.Path.{◌≡◌, ◌∙◌, refl, sym}
 use mathlib.Core.Bool.{Bool, true, false, ◌&&◌, not, false≢true}
 use mathlib.Core.List.{List, [], ◌∷◌}
@@ -22,8 +23,6 @@ use Rattle.node_rules.specs.declared.Mode.TheVariants.{Normal, Programming, Erro
 use Rattle.node_rules.specs.declared.Request.{Request}
 use Rattle.node_rules.specs.declared.Request.TheVariants.{EnterProgramming, WaitForRestart, HardwareType, FirmwareType, Description, DeviceId, LeaveProgramming, AddressFrame, DataFrame}
 use Rattle.node_rules.specs.declared.Kind.{Kind}
-use Rattle.node_rules.specs.declared.Found.{Found}
-use Rattle.node_rules.specs.declared.Found.TheVariants.{Handled, Unhandled}
 use Rattle.node_rules.specs.declared.Node.{Node}
 use Rattle.node_rules.specs.declared.Next.{Next}
 use Rattle.node_rules.specs.declared.Next.TheVariants.{Stays, Programs, Waits}
@@ -61,9 +60,9 @@ table_right : all_right handled_types ≡ true
 unfolding handled_types
 table_right = refl
 
-Says : ℕ → Found → Type 0
-Says t Unhandled = Unit {0}
-Says t (Handled k) = asks_rightly k.request t k.handled ≡ true
+Says : ℕ → Option Kind → Type 0
+Says t None = Unit {0}
+Says t (Some k) = asks_rightly k.request t k.handled ≡ true
 
 look_says : (ks : List Kind) (t : ℕ) → all_right ks ≡ true → Says t (look_in ks t)
 unfolding Says
@@ -110,11 +109,11 @@ request_allowed n f LeaveProgramming h e t = tt
 request_allowed n f AddressFrame h e t = (λ _. inl (in_programming_lem h n.mode e t), λ _. inl (in_programming_lem h n.mode e t))
 request_allowed n f DataFrame h e t = (λ _. tt, λ _. doing_allowed n f (staged_in n.mode))
 
-type_allowed : (n : Node) (f : List ℕ) (k : Found) → Says (type_of f) k
+type_allowed : (n : Node) (f : List ℕ) (k : Option Kind) → Says (type_of f) k
     → Cases (AllowedBy n.mode f) (type_outcomes k n f) (asked_by k n.mode f)
 unfolding Says
-type_allowed n f Unhandled s = (λ _. tt, λ _. tt)
-type_allowed n f (Handled k) s =
+type_allowed n f None s = (λ _. tt, λ _. tt)
+type_allowed n f (Some k) s =
     (λ _. tt, λ h. (λ _. tt, λ _. request_allowed n f k.request k.handled s (not-false (handled_here k.handled n.mode) h)))
 
 frame_allowed : (n : Node) (f : List ℕ) → Cases (AllowedBy n.mode f) (frame_outcomes n f) (asked_of n f)

@@ -1,6 +1,7 @@
 -- What a node in programming mode does with the frames of an update: an address frame stages its command, a data frame does what is staged
 -- and shows the eight cells, and 0x020 leaves. Each law reads `can_step` through once; whoever delivers frames cites them alone.
 -- Assumes nothing.
+use Rattle.std.specs.Prelude.{Some}
 use mathlib.Core.Path.{◌≡◌, ◌∙◌, refl, sym, ap}
 use mathlib.Core.Bool.{true, false}
 use mathlib.Core.List.{List, [], ◌∷◌}
@@ -17,7 +18,6 @@ use Rattle.memory_address.specs.Places.{full, eeprom_cell}
 use Rattle.memory_address.specs.Rule.{ruled, legal_flash, legal_eeprom}
 use Rattle.memory_address.specs.declared.Address.{Address}
 use Rattle.memory_address.specs.declared.Address.TheVariants.{Flash, Eeprom}
-use Rattle.memory_address.specs.declared.Ruled.TheVariants.{Legal}
 use Rattle.memory_address.proofs.Laws.{flash_within, eeprom_within}
 use Rattle.memory_cells.specs.Memory.{flash_written, flash_erased, eeprom_written}
 use Rattle.memory_cells.proofs.Laws.{erased_length, written_length, eeprom_written_length, erased_done, eeprom_written_done}
@@ -82,7 +82,7 @@ three_bytes a h = omega arith
 
 module _ (n : Node) (s : Staged) where
   -- an address frame with a legal command stages it
-  decided_address : (command a : ℕ) (x : Address) → a < 0x1000000 → ruled a command ≡ Legal x
+  decided_address : (command a : ℕ) (x : Address) → a < 0x1000000 → ruled a command ≡ Some x
       → decided (programming n s) true (address_to n.plate.own.0 n.plate.group.0 command a)
       ≡ does Echoed Kept (Programs (command_at command x))
   unfolding decided found handled_types tidied
@@ -128,7 +128,7 @@ module _ (n : Node) (flash eeprom : List ℕ) (l : length flash ≡ 65536) (k : 
       (programming_is n s e ∙ sym (tidied_once n s (tidied_legal n s e)))
 
   -- 0x030 with a legal command: staged, D0 to D7 echoed
-  pub stages : (s : Staged) → legal_staged s ≡ true → (command a : ℕ) (x : Address) → a < 0x1000000 → ruled a command ≡ Legal x
+  pub stages : (s : Staged) → legal_staged s ≡ true → (command a : ℕ) (x : Address) → a < 0x1000000 → ruled a command ≡ Some x
       → can_step (programming n s) (address_to n.plate.own.0 n.plate.group.0 command a) flash eeprom
       ≡ answered n (command_at command x) (echo_of n.plate.own.0 n.plate.group.0 command a) flash eeprom
   unfolding done tidied

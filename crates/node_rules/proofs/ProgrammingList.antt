@@ -1,6 +1,7 @@
 -- The list "In programming mode only", one theorem a line and a command: the frame's bytes, and all that the call leaves, written out as
 -- document 01 has them. A staged command is what the tidied record has; that it is legal follows.
 -- Assumes nothing.
+use Rattle.std.specs.Prelude.{Option, Some, None}
 use mathlib.Core.Path.{◌≡◌, ◌∙◌, refl, sym, ap}
 use mathlib.Core.Bool.{true, false, ◌&&◌, not}
 use mathlib.Core.List.{List, [], ◌∷◌}
@@ -19,8 +20,6 @@ use Rattle.base.proofs.Patched.{inside_patch}
 use Rattle.memory_address.specs.Rule.{ruled, is_flash, is_eeprom, is_legal, legal_flash, legal_eeprom}
 use Rattle.memory_address.specs.declared.Address.{Address}
 use Rattle.memory_address.specs.declared.Address.TheVariants.{Flash, Eeprom}
-use Rattle.memory_address.specs.declared.Ruled.{Ruled}
-use Rattle.memory_address.specs.declared.Ruled.TheVariants.{Legal, Illegal}
 use Rattle.memory_address.proofs.Laws.{flash_ruled, eeprom_ruled, flash_within, eeprom_within}
 use Rattle.memory_leaves.specs.Leaves.{combined}
 use Rattle.memory_cells.specs.Memory.{flash_written}
@@ -35,7 +34,6 @@ use Rattle.node_rules.specs.declared.Mode.{Mode}
 use Rattle.node_rules.specs.declared.Mode.TheVariants.{Programming, Waiting}
 use Rattle.node_rules.specs.declared.Node.{Node}
 use Rattle.node_rules.specs.declared.Kind.{Kind}
-use Rattle.node_rules.specs.declared.Found.TheVariants.{Handled}
 use Rattle.node_rules.specs.declared.Memory.TheVariants.{Kept}
 use Rattle.node_rules.specs.declared.Next.TheVariants.{Programs}
 use Rattle.node_rules.specs.declared.Reply.TheVariants.{Echoed}
@@ -53,13 +51,13 @@ own_own : (m g : ℕ) → (eqb m m && eqb g g) ≡ true
 own_own m g = true_both (eqb m m) _ (eq-eqb m m refl) (eq-eqb g g refl)
 
 -- what is legal neither on FLASH nor on EEPROM is illegal
-ruled_illegal : (a command : ℕ) → legal_flash a command ≡ false → legal_eeprom a command ≡ false → ruled a command ≡ Illegal
+ruled_illegal : (a command : ℕ) → legal_flash a command ≡ false → legal_eeprom a command ≡ false → ruled a command ≡ None
 ruled_illegal a command h k = go (ruled a command) h k
   where
-    go : (r : Ruled) → is_flash r ≡ false → is_eeprom r ≡ false → r ≡ Illegal
-    go (Legal (Flash f)) h k = cc
-    go (Legal (Eeprom e)) h k = cc
-    go Illegal h k = refl
+    go : (r : Option Address) → is_flash r ≡ false → is_eeprom r ≡ false → r ≡ None
+    go (Some (Flash f)) h k = cc
+    go (Some (Eeprom e)) h k = cc
+    go None h k = refl
 
 -- eight cells, listed
 eight_listed : (m : List ℕ) (a : ℕ) → listed m a 8 ≡ eight_at m a
@@ -84,13 +82,13 @@ flash_put flash a d0 d1 d2 d3 d4 d5 d6 d7 fl h =
     written_done flash a d fl h refl ∙ ap (λ (x : List ℕ). patch flash a (combined x d)) (e ∙ eight_listed flash a)
 
 -- what 0x030 comes to, by what the address rule says
-abbrev staging : ℕ → Ruled → Effect
+abbrev staging : ℕ → Option Address → Effect
 staging command r = unless (outcome 8 (not (is_legal r)) ∷ []) (does Echoed Kept (Programs (staged_by command r)))
 
 module _ (n : Node) (flash eeprom : List ℕ) (fl : length flash ≡ 65536) (el : length eeprom ≡ 1024) (s : Staged)
     (mode : (tidied n).mode ≡ Programming s) where
   by_line : (f : List ℕ) (k : Kind) → misshapen f ≡ false → is_response f ≡ false
-      → found (type_of f) ≡ Handled k → k.handled ≡ InProgramming → is_for k.addressing (tidied n).plate f ≡ true
+      → found (type_of f) ≡ Some k → k.handled ≡ InProgramming → is_for k.addressing (tidied n).plate f ≡ true
       → can_step n f flash eeprom
       ≡ done (unless (request_outcomes k.request (Programming s) f) (asked k.request (Programming s) f)) (tidied n) f flash eeprom
   by_line f k shape request e h a =
@@ -116,27 +114,27 @@ module _ (n : Node) (flash eeprom : List ℕ) (fl : length flash ≡ 65536) (el 
         (kind 0x020 InProgramming OwnNumbers LeaveProgramming) refl refl refl refl (own_own n.plate.own.0 n.plate.group.0))
 
     -- 0x030, "own numbers in the frame: D0 D1 D2 is the address, high byte first, D5 the command."
-    by_address : (r : Ruled) → ruled (high_first d0 d1 d2) d5 ≡ r
+    by_address : (r : Option Address) → ruled (high_first d0 d1 d2) d5 ≡ r
         → can_step n (with_own n.plate 0x03 0x00 (eight_of d0 d1 d2 d3 d4 d5 d6 d7)) flash eeprom
         ≡ done (staging d5 r) (tidied n) (with_own n.plate 0x03 0x00 (eight_of d0 d1 d2 d3 d4 d5 d6 d7)) flash eeprom
     unfolding tidied found handled_types
     by_address r e =
         by_line (with_own n.plate 0x03 0x00 (eight_of d0 d1 d2 d3 d4 d5 d6 d7))
         (kind 0x030 InProgramming OwnNumbers AddressFrame) refl refl refl refl (own_own n.plate.own.0 n.plate.group.0)
-        ∙ ap (λ (x : Ruled). done (staging d5 x) (tidied n) (with_own n.plate 0x03 0x00 (eight_of d0 d1 d2 d3 d4 d5 d6 d7)) flash eeprom) e
+        ∙ ap (λ (x : Option Address). done (staging d5 x) (tidied n) (with_own n.plate 0x03 0x00 (eight_of d0 d1 d2 d3 d4 d5 d6 d7)) flash eeprom) e
 
     -- "0x030 with illegal address or command": 8, nothing staged
     pub request_030_illegal : legal_flash (high_first d0 d1 d2) d5 ≡ false → legal_eeprom (high_first d0 d1 d2) d5 ≡ false
         → can_step n (with_own n.plate 0x03 0x00 (eight_of d0 d1 d2 d3 d4 d5 d6 d7)) flash eeprom
         ≡ leaves 8 0 (replicate 24 0) (with_mode (tidied n) (Programming Nothing)) flash eeprom
     unfolding done
-    request_030_illegal h k = by_address Illegal (ruled_illegal (high_first d0 d1 d2) d5 h k)
+    request_030_illegal h k = by_address None (ruled_illegal (high_first d0 d1 d2) d5 h k)
 
     -- "Legal: staged, D0 to D7 echoed."
-    stages : (x : Address) → ruled (high_first d0 d1 d2) d5 ≡ Legal x
+    stages : (x : Address) → ruled (high_first d0 d1 d2) d5 ≡ Some x
         → Stages n (eight_of d0 d1 d2 d3 d4 d5 d6 d7) (command_at d5 x) flash eeprom
     unfolding done tidied
-    stages x e = by_address (Legal x) e
+    stages x e = by_address (Some x) e
 
 -- 0x030 with each legal command
 module _ (n : Node) (flash eeprom : List ℕ) (fl : length flash ≡ 65536) (el : length eeprom ≡ 1024) (s : Staged)

@@ -1,6 +1,7 @@
 -- The request table, one theorem a row: the frame's bytes, and all that the call leaves, written out as document 01 has them. Each is the
 -- law of a request at that type; what is left computes.
 -- Assumes nothing.
+use Rattle.std.specs.Prelude.{Some, None}
 use mathlib.Core.Path.{◌≡◌, ◌∙◌, refl, sym}
 use mathlib.Core.Bool.{Bool, true, false, ◌&&◌, ◌||◌}
 use mathlib.Core.List.{List, [], ◌∷◌, ◌++◌}
@@ -25,7 +26,6 @@ use Rattle.node_rules.specs.declared.Mode.TheVariants.{Normal, Programming, Wait
 use Rattle.node_rules.specs.declared.Plate.{Plate}
 use Rattle.node_rules.specs.declared.Node.{Node}
 use Rattle.node_rules.specs.declared.Kind.{Kind}
-use Rattle.node_rules.specs.declared.Found.TheVariants.{Handled, Unhandled}
 use Rattle.node_rules.specs.Record.{with_mode, tidied}
 use Rattle.node_rules.specs.Requests.{kind, look_in, found, handled_types, is_normal, handled_here, is_for, asked}
 use Rattle.node_rules.specs.Outcomes.{unless, is_deaf, misshapen, is_response, request_outcomes}
@@ -68,7 +68,7 @@ module _ (n : Node) (flash eeprom : List ℕ) (fl : length flash ≡ 65536) (el 
   request_of b1 b2 = b1 ∷ b2 ∷ m ∷ g ∷ eight_of d0 d1 d2 d3 d4 d5 d6 d7
 
   by_request : (b1 b2 : ℕ) (k : Kind) → misshapen (request_of b1 b2) ≡ false → is_response (request_of b1 b2) ≡ false
-      → found (type_of (request_of b1 b2)) ≡ Handled k → k.handled ≡ InNormal
+      → found (type_of (request_of b1 b2)) ≡ Some k → k.handled ≡ InNormal
       → is_for k.addressing (tidied n).plate (request_of b1 b2) ≡ true
       → can_step n (request_of b1 b2) flash eeprom
       ≡ done (unless (request_outcomes k.request (tidied n).mode (request_of b1 b2))
@@ -173,13 +173,13 @@ module _ (n : Node) (f flash eeprom : List ℕ) (fl : length flash ≡ 65536) (e
   asking : is_response f ≡ false
   asking = rw flags refl
 
-  pub other_type_lem : is_deaf (tidied n).mode ≡ false → found (type_of f) ≡ Unhandled
+  pub other_type_lem : is_deaf (tidied n).mode ≡ false → found (type_of f) ≡ None
       → can_step n f flash eeprom ≡ leaves 6 0 (replicate 24 0) (tidied n) flash eeprom
   unfolding done
   other_type_lem m e = not_in_table n f flash eeprom (sizes_full flash eeprom fl el) shaped asking m e
 
   -- a type of the table in the other mode
-  pub other_mode : (k : Kind) → is_deaf (tidied n).mode ≡ false → found (type_of f) ≡ Handled k
+  pub other_mode : (k : Kind) → is_deaf (tidied n).mode ≡ false → found (type_of f) ≡ Some k
       → handled_here k.handled (tidied n).mode ≡ false
       → can_step n f flash eeprom ≡ leaves 6 0 (replicate 24 0) (tidied n) flash eeprom
   unfolding done
@@ -187,7 +187,7 @@ module _ (n : Node) (f flash eeprom : List ℕ) (fl : length flash ≡ 65536) (e
 
   -- "not for this node": 7. A frame of a "group" type with D2 not 0x00, or with D3 neither 0x00 nor the own group; one of a "node" type
   -- with D2 or D3 not the own number
-  pub not_for_group : (k : Kind) → found (type_of f) ≡ Handled k → handled_here k.handled (tidied n).mode ≡ true
+  pub not_for_group : (k : Kind) → found (type_of f) ≡ Some k → handled_here k.handled (tidied n).mode ≡ true
       → k.addressing ≡ AsGroup
       → (get_or f 6 0 ≡ 0x00 → ⊥) ⊎ ((get_or f 7 0 ≡ 0x00 → ⊥) × (get_or f 7 0 ≡ n.plate.group.0 → ⊥))
       → can_step n f flash eeprom ≡ leaves 7 0 (replicate 24 0) (tidied n) flash eeprom
@@ -196,7 +196,7 @@ module _ (n : Node) (f flash eeprom : List ℕ) (fl : length flash ≡ 65536) (e
       not_for_it n f flash eeprom (sizes_full flash eeprom fl el) shaped asking k e h
       (rw g (other_group n.plate (get_or f 6 0) (get_or f 7 0) d))
 
-  pub not_for_node : (k : Kind) → found (type_of f) ≡ Handled k → handled_here k.handled (tidied n).mode ≡ true
+  pub not_for_node : (k : Kind) → found (type_of f) ≡ Some k → handled_here k.handled (tidied n).mode ≡ true
       → k.addressing ≡ AsNode → (get_or f 6 0 ≡ n.plate.own.0 → ⊥) ⊎ (get_or f 7 0 ≡ n.plate.group.0 → ⊥)
       → can_step n f flash eeprom ≡ leaves 7 0 (replicate 24 0) (tidied n) flash eeprom
   unfolding done tidied
@@ -205,7 +205,7 @@ module _ (n : Node) (f flash eeprom : List ℕ) (fl : length flash ≡ 65536) (e
       (rw g (other_numbers n.plate.own.0 n.plate.group.0 (get_or f 6 0) (get_or f 7 0) d))
 
   -- and in programming mode one whose frame module and group are not the own numbers
-  pub not_for_own : (k : Kind) → found (type_of f) ≡ Handled k → handled_here k.handled (tidied n).mode ≡ true
+  pub not_for_own : (k : Kind) → found (type_of f) ≡ Some k → handled_here k.handled (tidied n).mode ≡ true
       → k.addressing ≡ OwnNumbers → (get_or f 2 0 ≡ n.plate.own.0 → ⊥) ⊎ (get_or f 3 0 ≡ n.plate.group.0 → ⊥)
       → can_step n f flash eeprom ≡ leaves 7 0 (replicate 24 0) (tidied n) flash eeprom
   unfolding done tidied
@@ -214,7 +214,7 @@ module _ (n : Node) (f flash eeprom : List ℕ) (fl : length flash ≡ 65536) (e
       (rw g (other_numbers n.plate.own.0 n.plate.group.0 (get_or f 2 0) (get_or f 3 0) d))
 
   -- 0x010 whose frame module and group are not both 0x00
-  pub not_for_zero : (k : Kind) → found (type_of f) ≡ Handled k → handled_here k.handled (tidied n).mode ≡ true
+  pub not_for_zero : (k : Kind) → found (type_of f) ≡ Some k → handled_here k.handled (tidied n).mode ≡ true
       → k.addressing ≡ AllZero → (get_or f 2 0 ≡ 0x00 → ⊥) ⊎ (get_or f 3 0 ≡ 0x00 → ⊥)
       → can_step n f flash eeprom ≡ leaves 7 0 (replicate 24 0) (tidied n) flash eeprom
   unfolding done tidied
@@ -225,7 +225,7 @@ module _ (n : Node) (f flash eeprom : List ℕ) (fl : length flash ≡ 65536) (e
 -- "All other types: 6": every type but the fifteen is in no row of the table
 pub every_other : (t : ℕ)
     → NoneIs (0x100 ∷ 0x101 ∷ 0x102 ∷ 0x103 ∷ 0x104 ∷ 0x105 ∷ 0x106 ∷ 0x10D ∷ 0x10E ∷ 0x10F ∷ 0x111 ∷ 0x010 ∷ 0x020 ∷ 0x030 ∷ 0x040 ∷ []) t
-    → found t ≡ Unhandled
+    → found t ≡ None
 unfolding found handled_types
 every_other t h = none handled_types h
   where
@@ -233,6 +233,6 @@ every_other t h = none handled_types h
     types [] = []
     types (k ∷ ks) = k.frame_type ∷ types ks
 
-    none : (ks : List Kind) → NoneIs (types ks) t → look_in ks t ≡ Unhandled
+    none : (ks : List Kind) → NoneIs (types ks) t → look_in ks t ≡ None
     none [] o = refl
     none (k ∷ ks) o = rw (ne_eqb k.frame_type t o.0) (none ks o.1)

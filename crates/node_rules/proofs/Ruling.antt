@@ -1,6 +1,7 @@
 -- The law of a request: over full memories a frame that has the right shape, is no response, is of a type that is handled in the mode and
 -- is for the node comes to what its request asks, unless 8 or 9 holds. Every outcome before those is false by a premise.
 -- Assumes nothing.
+use Rattle.std.specs.Prelude.{Some, None}
 use mathlib.Core.Path.{◌≡◌, refl, ap}
 use mathlib.Core.Bool.{true, false, false≢true}
 use mathlib.Core.List.{List}
@@ -16,7 +17,6 @@ use Rattle.node_rules.specs.declared.HandledIn.TheVariants.{InNormal, InProgramm
 use Rattle.node_rules.specs.declared.Mode.{Mode}
 use Rattle.node_rules.specs.declared.Mode.TheVariants.{Normal, Programming, Error, Waiting}
 use Rattle.node_rules.specs.declared.Kind.{Kind}
-use Rattle.node_rules.specs.declared.Found.TheVariants.{Handled, Unhandled}
 use Rattle.node_rules.specs.declared.Node.{Node}
 use Rattle.node_rules.specs.declared.Effect.{Effect}
 use Rattle.node_rules.specs.Record.{tidied}
@@ -43,7 +43,7 @@ module _ (n : Node) (f flash eeprom : List ℕ) (sized : full flash eeprom ≡ t
   by_decision e d = rw sized (ap (λ (x : Effect). done x (tidied n) f flash eeprom) d)
 
   module _ (shape : misshapen f ≡ false) (request : is_response f ≡ false) where
-    pub obeys : (k : Kind) → found (type_of f) ≡ Handled k → handled_here k.handled (tidied n).mode ≡ true
+    pub obeys : (k : Kind) → found (type_of f) ≡ Some k → handled_here k.handled (tidied n).mode ≡ true
         → is_for k.addressing (tidied n).plate f ≡ true
         → can_step n f flash eeprom
         ≡ done (unless (request_outcomes k.request (tidied n).mode f) (asked k.request (tidied n).mode f)) (tidied n) f flash eeprom
@@ -53,19 +53,19 @@ module _ (n : Node) (f flash eeprom : List ℕ) (sized : full flash eeprom ≡ t
         (rw (e, handled_hears k.handled (tidied n).mode h, shape, request, h, a) refl)
 
     -- a type that is not in the table, and one that is handled in the other mode
-    pub not_in_table : is_deaf (tidied n).mode ≡ false → found (type_of f) ≡ Unhandled
+    pub not_in_table : is_deaf (tidied n).mode ≡ false → found (type_of f) ≡ None
         → can_step n f flash eeprom ≡ done (refused 6) (tidied n) f flash eeprom
     unfolding decided
     not_in_table m e = by_decision (refused 6) (rw (e, m, shape, request) refl)
 
-    pub not_in_mode : (k : Kind) → is_deaf (tidied n).mode ≡ false → found (type_of f) ≡ Handled k
+    pub not_in_mode : (k : Kind) → is_deaf (tidied n).mode ≡ false → found (type_of f) ≡ Some k
         → handled_here k.handled (tidied n).mode ≡ false
         → can_step n f flash eeprom ≡ done (refused 6) (tidied n) f flash eeprom
     unfolding decided
     not_in_mode k m e h = by_decision (refused 6) (rw (e, m, shape, request, h) refl)
 
     -- a frame that is for another node
-    pub not_for_it : (k : Kind) → found (type_of f) ≡ Handled k → handled_here k.handled (tidied n).mode ≡ true
+    pub not_for_it : (k : Kind) → found (type_of f) ≡ Some k → handled_here k.handled (tidied n).mode ≡ true
         → is_for k.addressing (tidied n).plate f ≡ false → can_step n f flash eeprom ≡ done (refused 7) (tidied n) f flash eeprom
     unfolding decided
     not_for_it k e h a =

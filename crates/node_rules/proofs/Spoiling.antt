@@ -2,6 +2,7 @@
 -- protected cells of FLASH stay, and so do both lengths. In normal mode a frame comes to an effect that leaves FLASH, and EEPROM but for
 -- BOOTFL, since a data frame finds nothing staged there.
 -- Assumes nothing.
+use Rattle.std.specs.Prelude.{Option, Some, None}
 use mathlib.Core.Path.{◌≡◌, ◌∙◌, refl, sym, ap, subst}
 use mathlib.Core.Bool.{Bool, true}
 use mathlib.Core.List.{List, [], ◌∷◌}
@@ -18,8 +19,6 @@ use Rattle.node_rules.specs.declared.Mode.{Mode}
 use Rattle.node_rules.specs.declared.Mode.TheVariants.{Normal}
 use Rattle.node_rules.specs.declared.Request.{Request}
 use Rattle.node_rules.specs.declared.Request.TheVariants.{EnterProgramming, WaitForRestart, HardwareType, FirmwareType, Description, DeviceId, LeaveProgramming, AddressFrame, DataFrame}
-use Rattle.node_rules.specs.declared.Found.{Found}
-use Rattle.node_rules.specs.declared.Found.TheVariants.{Handled, Unhandled}
 use Rattle.node_rules.specs.declared.Node.{Node}
 use Rattle.node_rules.specs.declared.Memory.{Memory}
 use Rattle.node_rules.specs.declared.Memory.TheVariants.{Kept, Bootfl, Written, Erased}
@@ -32,6 +31,7 @@ use Rattle.node_rules.specs.Runs.{flash_after_all, eeprom_after_all}
 use Rattle.node_rules.specs.Uart.{held_with, uart_outcomes, held_decided, uart_step}
 use Rattle.node_rules.specs.Others.{ButBootfl}
 use Rattle.node_rules.proofs.Deciding.{unless_every}
+use Rattle.node_rules.specs.declared.Kind.{Kind}
 
 -- ---- one memory effect
 
@@ -130,9 +130,9 @@ asked_in_normal LeaveProgramming started f = tt
 asked_in_normal AddressFrame started f = tt
 asked_in_normal DataFrame started f = tt
 
-by_type_in_normal : (k : Found) (started : Bool) (f : List ℕ) → OnlyBootfl (asked_by k (Normal started) f).memory
-by_type_in_normal Unhandled started f = tt
-by_type_in_normal (Handled k) started f = asked_in_normal k.request started f
+by_type_in_normal : (k : Option Kind) (started : Bool) (f : List ℕ) → OnlyBootfl (asked_by k (Normal started) f).memory
+by_type_in_normal None started f = tt
+by_type_in_normal (Some k) started f = asked_in_normal k.request started f
 
 decided_in_normal : (n : Node) (started : Bool) (os : List Outcome) (f : List ℕ) → n.mode ≡ Normal started
     → OnlyBootfl (unless os (asked_of n f)).memory

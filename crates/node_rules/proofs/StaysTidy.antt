@@ -1,6 +1,7 @@
 -- What a call returns is tidy. Why it holds: a frame stages only what the address rule lets it, every other mode is tidy by itself, and
 -- what is held after a byte may be held.
 -- Assumes nothing.
+use Rattle.std.specs.Prelude.{Option, Some, None}
 use mathlib.Core.Path.{◌≡◌, ◌∙◌, refl, sym, ap, subst}
 use mathlib.Core.Bool.{Bool, true, false, ◌&&◌, cond, false≢true}
 use mathlib.Core.List.{List, [], ◌∷◌}
@@ -16,8 +17,6 @@ use Rattle.memory_address.specs.Rule.{ruled, is_flash, is_eeprom, is_legal, lega
 use Rattle.memory_address.specs.declared.FlashAddress.{FlashAddress}
 use Rattle.memory_address.specs.declared.EepromPlace.{EepromPlace}
 use Rattle.memory_address.specs.declared.Address.TheVariants.{Flash, Eeprom}
-use Rattle.memory_address.specs.declared.Ruled.{Ruled}
-use Rattle.memory_address.specs.declared.Ruled.TheVariants.{Legal, Illegal}
 use Rattle.memory_address.proofs.Laws.{Within, ruled_within, legal_command, no_eeprom_erase}
 use Rattle.memory_start.specs.Start.{starts}
 use Rattle.frame_rules.specs.Frame.{type_of}
@@ -28,8 +27,6 @@ use Rattle.node_rules.specs.declared.Mode.{Mode}
 use Rattle.node_rules.specs.declared.Mode.TheVariants.{Normal, Programming, Error, Waiting}
 use Rattle.node_rules.specs.declared.Request.{Request}
 use Rattle.node_rules.specs.declared.Request.TheVariants.{EnterProgramming, WaitForRestart, HardwareType, FirmwareType, Description, DeviceId, LeaveProgramming, AddressFrame, DataFrame}
-use Rattle.node_rules.specs.declared.Found.{Found}
-use Rattle.node_rules.specs.declared.Found.TheVariants.{Handled, Unhandled}
 use Rattle.node_rules.specs.declared.Noise.{Noise}
 use Rattle.node_rules.specs.declared.Noise.TheVariants.{KeepFromNext, DropAll}
 use Rattle.node_rules.specs.declared.Choices.{Choices}
@@ -46,6 +43,8 @@ use Rattle.node_rules.specs.Restart.{mode_reached, restarted_in, restart_step}
 use Rattle.node_rules.specs.Uart.{held_with, incomplete, held_outcomes, from_start, kept_by, held_after_bad, held_after, held_decided, uart_step}
 use Rattle.node_rules.proofs.Tidying.{held_holdable, holding_tidy, tidy_twice, tidied_mode, mode_tidy}
 use Rattle.node_rules.proofs.Deciding.{unless_every, unless_by, among_cases, frame_among, asked_of_zero}
+use Rattle.memory_address.specs.declared.Address.{Address}
+use Rattle.node_rules.specs.declared.Kind.{Kind}
 
 -- ---- what a frame stages is legal
 
@@ -66,12 +65,12 @@ eeprom_staged c p (inr (inr e)) =
 staged_legal : (a c : ℕ) → legal_staged (staged_by c (ruled a c)) ≡ true
 staged_legal a c = go (ruled a c) refl (ruled_within a c)
   where
-    go : (r : Ruled) → ruled a c ≡ r → Within (cells_of c) a r → legal_staged (staged_by c r) ≡ true
-    go (Legal (Flash f)) e w =
+    go : (r : Option Address) → ruled a c ≡ r → Within (cells_of c) a r → legal_staged (staged_by c r) ≡ true
+    go (Some (Flash f)) e w =
         flash_staged c f (legal_command a c (ap is_legal e)) (subst (λ (x : ℕ). legal_flash x c ≡ true) (sym w.0) (ap is_flash e))
-    go (Legal (Eeprom p)) e w =
+    go (Some (Eeprom p)) e w =
         eeprom_staged c p (legal_command a c (ap is_legal e)) (subst (λ (x : ℕ). legal_eeprom x c ≡ true) (sym w.0) (ap is_eeprom e))
-    go Illegal e w = refl
+    go None e w = refl
 
 -- what becomes of the mode stages nothing that isn't legal
 abbrev StagesLegal : Next → Type 0
@@ -99,9 +98,9 @@ asked_legally LeaveProgramming m f = tt
 asked_legally AddressFrame m f = staged_legal (address_in f) (D 5 f)
 asked_legally DataFrame m f = doing_legally (staged_in m)
 
-by_type_legally : (k : Found) (m : Mode) (f : List ℕ) → Legally (asked_by k m f)
-by_type_legally Unhandled m f = tt
-by_type_legally (Handled k) m f = asked_legally k.request m f
+by_type_legally : (k : Option Kind) (m : Mode) (f : List ℕ) → Legally (asked_by k m f)
+by_type_legally None m f = tt
+by_type_legally (Some k) m f = asked_legally k.request m f
 
 refused_legally : (number : ℕ) → Legally (refused number)
 refused_legally number = by_cond StagesLegal (eqb number 8) (Programs Nothing) Stays (λ _. refl) (λ _. tt)

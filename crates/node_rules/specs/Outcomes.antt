@@ -1,6 +1,6 @@
 -- "Numbered outcomes": a list of (number, condition). The first that holds gives the number and what is left; where none holds, 0, and
 -- what the frame asks is done.
-use Rattle.std.specs.Prelude.{ℕ, Bool, true, false, ◌||◌, not, cond, List, [], ◌∷◌, eqb, length}
+use Rattle.std.specs.Prelude.{ℕ, Bool, true, false, ◌||◌, not, cond, List, [], ◌∷◌, eqb, length, Option, Some, None}
 use Rattle.memory_address.specs.Rule.{is_legal}
 use Rattle.frame_rules.specs.Frame.{type_of, flag_of, upper_flags}
 use Rattle.node_rules.specs.declared.Staged.{Staged}
@@ -9,8 +9,6 @@ use Rattle.node_rules.specs.declared.Mode.{Mode}
 use Rattle.node_rules.specs.declared.Mode.TheVariants.{Normal, Programming, Error, Waiting}
 use Rattle.node_rules.specs.declared.Request.{Request}
 use Rattle.node_rules.specs.declared.Request.TheVariants.{EnterProgramming, WaitForRestart, HardwareType, FirmwareType, Description, DeviceId, LeaveProgramming, AddressFrame, DataFrame}
-use Rattle.node_rules.specs.declared.Found.{Found}
-use Rattle.node_rules.specs.declared.Found.TheVariants.{Handled, Unhandled}
 use Rattle.node_rules.specs.declared.Node.{Node}
 use Rattle.node_rules.specs.declared.Memory.TheVariants.{Kept}
 use Rattle.node_rules.specs.declared.Next.{Next}
@@ -18,6 +16,7 @@ use Rattle.node_rules.specs.declared.Next.TheVariants.{Stays, Programs}
 use Rattle.node_rules.specs.declared.Reply.TheVariants.{Silent}
 use Rattle.node_rules.specs.declared.Effect.{Effect}
 use Rattle.node_rules.specs.Requests.{found, is_for, handled_here, ruled_in, staged_in, asked_by}
+use Rattle.node_rules.specs.declared.Kind.{Kind}
 
 -- "No" and "When"
 pub record Outcome : Type 0 where
@@ -78,9 +77,9 @@ request_outcomes AddressFrame m f = outcome 8 (not (is_legal (ruled_in f))) ∷ 
 request_outcomes DataFrame m f = outcome 9 (is_nothing (staged_in m)) ∷ []
 
 -- 6: "type not handled in this mode"; 7: "not for this node"; then 8 and 9
-abbrev pub type_outcomes : Found → Node → List ℕ → List Outcome
-type_outcomes Unhandled n f = outcome 6 true ∷ []
-type_outcomes (Handled k) n f =
+abbrev pub type_outcomes : Option Kind → Node → List ℕ → List Outcome
+type_outcomes None n f = outcome 6 true ∷ []
+type_outcomes (Some k) n f =
     outcome 6 (not (handled_here k.handled n.mode)) ∷
     outcome 7 (not (is_for k.addressing n.plate f)) ∷
     request_outcomes k.request n.mode f

@@ -1,5 +1,5 @@
 -- "Requests and replies": which types are handled, whom a frame is for, and what each request comes to.
-use Rattle.std.specs.Prelude.{ℕ, ◌+◌, Bool, true, false, ◌&&◌, ◌||◌, cond, List, [], ◌∷◌, eqb, get_or}
+use Rattle.std.specs.Prelude.{ℕ, ◌+◌, Bool, true, false, ◌&&◌, ◌||◌, cond, List, [], ◌∷◌, eqb, get_or, Option, Some, None}
 use Rattle.base.specs.Parts.{listed, high_first}
 use Rattle.frame_rules.specs.Frame.{module_of, group_of}
 use Rattle.memory_address.specs.Rule.{ruled}
@@ -7,8 +7,6 @@ use Rattle.memory_address.specs.declared.Module.{Module}
 use Rattle.memory_address.specs.declared.Group.{Group}
 use Rattle.memory_address.specs.declared.Address.{Address}
 use Rattle.memory_address.specs.declared.Address.TheVariants.{Flash, Eeprom}
-use Rattle.memory_address.specs.declared.Ruled.{Ruled}
-use Rattle.memory_address.specs.declared.Ruled.TheVariants.{Legal, Illegal}
 use Rattle.node_rules.specs.declared.HandledIn.{HandledIn}
 use Rattle.node_rules.specs.declared.HandledIn.TheVariants.{InNormal, InProgramming}
 use Rattle.node_rules.specs.declared.Addressing.{Addressing}
@@ -16,8 +14,6 @@ use Rattle.node_rules.specs.declared.Addressing.TheVariants.{AsGroup, AsNode, Al
 use Rattle.node_rules.specs.declared.Request.{Request}
 use Rattle.node_rules.specs.declared.Request.TheVariants.{EnterProgramming, WaitForRestart, HardwareType, FirmwareType, Description, DeviceId, LeaveProgramming, AddressFrame, DataFrame}
 use Rattle.node_rules.specs.declared.Kind.{Kind}
-use Rattle.node_rules.specs.declared.Found.{Found}
-use Rattle.node_rules.specs.declared.Found.TheVariants.{Handled, Unhandled}
 use Rattle.node_rules.specs.declared.Staged.{Staged}
 use Rattle.node_rules.specs.declared.Staged.TheVariants.{Nothing, Read, Write, Erase}
 use Rattle.node_rules.specs.declared.Mode.{Mode}
@@ -56,11 +52,11 @@ handled_types =
     kind 0x040 InProgramming OwnNumbers DataFrame ∷ []
 
 -- the first row of that type
-abbrev pub look_in : List Kind → ℕ → Found
-look_in [] t = Unhandled
-look_in (k ∷ ks) t = cond (eqb k.frame_type t) (Handled k) (look_in ks t)
+abbrev pub look_in : List Kind → ℕ → Option Kind
+look_in [] t = None
+look_in (k ∷ ks) t = cond (eqb k.frame_type t) (Some k) (look_in ks t)
 
-unfoldable pub found : ℕ → Found
+unfoldable pub found : ℕ → Option Kind
 found t = look_in handled_types t
 
 -- ---- "For": whom a frame is for, and in which mode
@@ -114,7 +110,7 @@ handled_here InProgramming m = is_programming m
 abbrev pub address_in : List ℕ → ℕ
 address_in f = high_first (D 0 f) (D 1 f) (D 2 f)
 
-abbrev pub ruled_in : List ℕ → Ruled
+abbrev pub ruled_in : List ℕ → Option Address
 ruled_in f = ruled (address_in f) (D 5 f)
 
 -- the command that is staged at a legal address; at an illegal one nothing is
@@ -123,9 +119,9 @@ command_at command (Flash a) =
     cond (eqb command 0x01) (Read (Flash a)) (cond (eqb command 0x02) (Write (Flash a)) (Erase a))
 command_at command (Eeprom p) = cond (eqb command 0x01) (Read (Eeprom p)) (Write (Eeprom p))
 
-abbrev pub staged_by : ℕ → Ruled → Staged
-staged_by command (Legal a) = command_at command a
-staged_by command Illegal = Nothing
+abbrev pub staged_by : ℕ → Option Address → Staged
+staged_by command (Some a) = command_at command a
+staged_by command None = Nothing
 
 -- what is staged in a mode
 abbrev pub staged_in : Mode → Staged
@@ -159,6 +155,6 @@ asked AddressFrame m f = does Echoed Kept (Programs (staged_by (D 5 f) (ruled_in
 asked DataFrame m f = doing (staged_in m)
 
 -- what a frame asks, by what the table says of its type; one that is not in the table asks nothing
-abbrev pub asked_by : Found → Mode → List ℕ → Effect
-asked_by Unhandled m f = does Silent Kept Stays
-asked_by (Handled k) m f = asked k.request m f
+abbrev pub asked_by : Option Kind → Mode → List ℕ → Effect
+asked_by None m f = does Silent Kept Stays
+asked_by (Some k) m f = asked k.request m f

@@ -108,13 +108,6 @@ pub struct Kind {
     pub request: Request,
 }
 
-// What the table says of a type.
-#[derive(Clone, Copy)]
-pub enum Found {
-    Handled(Kind),
-    Unhandled,
-}
-
 // What becomes of the memories: they are kept, BOOTFL becomes a value, a row is written, or a block is erased.
 #[derive(Clone, Copy)]
 pub enum Memory {

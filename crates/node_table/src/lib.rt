@@ -4,7 +4,7 @@
 ghost use Rattle.std.specs.Prelude.{◌≡◌};
 ghost use Rattle.node_rules.specs.Requests.{found};
 
-use node_rules::{Addressing, Found, HandledIn, Kind, Request};
+use node_rules::{Addressing, HandledIn, Kind, Request};
 
 const TABLE: [Kind; 15] = [
     Kind {
@@ -100,26 +100,26 @@ const TABLE: [Kind; 15] = [
 ];
 
 // The table's first row of that type.
-pub fn look_up(t: u16) -> Found
+pub fn look_up(t: u16) -> Option<Kind>
     ensures { result ≡ found t }
 {
     let table = TABLE;
     match t {
-        0x100 => Found::Handled(table[0]),
-        0x101 => Found::Handled(table[1]),
-        0x102 => Found::Handled(table[2]),
-        0x103 => Found::Handled(table[3]),
-        0x104 => Found::Handled(table[4]),
-        0x105 => Found::Handled(table[5]),
-        0x106 => Found::Handled(table[6]),
-        0x10D => Found::Handled(table[7]),
-        0x10E => Found::Handled(table[8]),
-        0x10F => Found::Handled(table[9]),
-        0x111 => Found::Handled(table[10]),
-        0x010 => Found::Handled(table[11]),
-        0x020 => Found::Handled(table[12]),
-        0x030 => Found::Handled(table[13]),
-        0x040 => Found::Handled(table[14]),
-        _ => Found::Unhandled,
+        0x100 => Some(table[0]),
+        0x101 => Some(table[1]),
+        0x102 => Some(table[2]),
+        0x103 => Some(table[3]),
+        0x104 => Some(table[4]),
+        0x105 => Some(table[5]),
+        0x106 => Some(table[6]),
+        0x10D => Some(table[7]),
+        0x10E => Some(table[8]),
+        0x10F => Some(table[9]),
+        0x111 => Some(table[10]),
+        0x010 => Some(table[11]),
+        0x020 => Some(table[12]),
+        0x030 => Some(table[13]),
+        0x040 => Some(table[14]),
+        _ => None,
     }
 }

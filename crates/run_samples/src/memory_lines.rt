@@ -1,6 +1,6 @@
 // Lines for the address rule, the write, the rows shown and the sums.
 use crate::print;
-use memory_address::{Address, Ruled};
+use memory_address::Address;
 use std::io;
 use std::io::Write;
 
@@ -16,8 +16,8 @@ fn memory<W: Write>(printer: &mut W, cells: Address) -> io::Result<()> {
 pub fn legal<W: Write>(printer: &mut W, name: &str, command: u32, at: u32) -> io::Result<()> {
     print::hex(printer, name, at)?;
     match memory_address::rule(at, command) {
-        Ruled::Legal(cells) => memory(printer, cells),
-        Ruled::Illegal => print::text(printer, " is illegal\n"),
+        Some(cells) => memory(printer, cells),
+        None => print::text(printer, " is illegal\n"),
     }
 }
 

@@ -2,7 +2,7 @@
 use crate::session::{CAN_FRAMES, RESTARTS, Session, UART_BYTES};
 use crate::{closing, handed, pieces, session, slices, telling};
 use base::byte_at;
-use memory_address::{Address, Ruled};
+use memory_address::Address;
 use node_rules::{Answer, Choices, Restarted, UartAnswer};
 use std::io;
 use std::io::Write;
@@ -247,8 +247,8 @@ fn unwrap<W: Write>(
 fn rule<W: Write>(printer: &mut W, s: Session, rec: &[u8]) -> io::Result<Session> {
     let r = memory_address::rule(handed::number(rec, 1), handed::number(rec, 5));
     match r {
-        Ruled::Legal(a) => ruled(printer, s, a),
-        Ruled::Illegal => telling::write(printer, s, &[0x0E, 8, 2], &[]),
+        Some(a) => ruled(printer, s, a),
+        None => telling::write(printer, s, &[0x0E, 8, 2], &[]),
     }
 }
 

@@ -2,6 +2,7 @@
 -- numbers, the lengths are kept, and no cell that no item names has changed. Why it holds: the items' frames are pairs, each pair stages a
 -- legal command at cells of its own item before it does it, and so a prefix is whole pairs and at most one address frame behind them.
 -- Assumes nothing.
+use Rattle.std.specs.Prelude.{Some}
 use mathlib.Core.Path.{◌≡◌, ◌∙◌, refl, sym, ap, ap₂, subst}
 use mathlib.Core.Bool.{true}
 use mathlib.Core.List.{List, [], ◌∷◌, ◌++◌}
@@ -14,7 +15,6 @@ use Rattle.memory_address.specs.Places.{flash_cells, eeprom_cells, eeprom_cell}
 use Rattle.memory_address.specs.Rule.{ruled, legal_flash, legal_eeprom}
 use Rattle.memory_address.specs.declared.Address.{Address}
 use Rattle.memory_address.specs.declared.Address.TheVariants.{Flash, Eeprom}
-use Rattle.memory_address.specs.declared.Ruled.TheVariants.{Legal as Allowed}
 use Rattle.memory_address.proofs.Laws.{flash_ruled, eeprom_ruled, flash_within, eeprom_within, block_rows}
 use Rattle.memory_cells.specs.Memory.{flash_written, flash_erased, eeprom_written}
 use Rattle.memory_cells.proofs.Laws.{written_length, written_elsewhere, erased_length, erased_elsewhere, eeprom_written_length, eeprom_written_elsewhere}
@@ -110,7 +110,7 @@ module _ (r : Recipe) (before : State) (fl : length before.flash ≡ flash_cells
     eeprom_full_lem = u.eeprom_length ∙ el
 
     -- an address frame stages its command
-    staging : (command a : ℕ) (x : Address) → a < 0x1000000 → ruled a command ≡ Allowed x
+    staging : (command a : ℕ) (x : Address) → a < 0x1000000 → ruled a command ≡ Some x
         → step_at s (address_frame r.module_number r.group_number command a)
         ≡ answered n (command_at command x) (echo_of n.plate.own.0 n.plate.group.0 command a) s.flash s.eeprom
     staging command a x b e =

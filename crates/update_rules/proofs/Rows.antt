@@ -2,6 +2,7 @@
 -- the flag set, whatever was staged before, and leaves the node programming. A pair is the laws of its two frames, and rows are pairs one
 -- behind another, FLASH taken in three parts.
 -- Assumes nothing.
+use Rattle.std.specs.Prelude.{Some}
 use mathlib.Core.Path.{◌≡◌, ◌∙◌, refl, sym, ap, subst}
 use mathlib.Core.Bool.{true}
 use mathlib.Core.List.{List, [], ◌∷◌, ◌++◌, map, map-append, append_assoc}
@@ -14,7 +15,6 @@ use Rattle.base.proofs.Bytes.{bytes_take, bytes_drop}
 use Rattle.memory_address.specs.Rule.{ruled, legal_flash}
 use Rattle.memory_address.specs.declared.Address.{Address}
 use Rattle.memory_address.specs.declared.Address.TheVariants.{Flash}
-use Rattle.memory_address.specs.declared.Ruled.TheVariants.{Legal}
 use Rattle.memory_address.proofs.Laws.{flash_ruled, flash_within}
 use Rattle.memory_leaves.specs.Leaves.{combined}
 use Rattle.memory_cells.specs.Memory.{flash_written}
@@ -66,7 +66,7 @@ module _ (n : Node) where
 
   -- a pair: the command is staged and done
   pub pair : (command a : ℕ) (x : Address) (d flash eeprom flash' eeprom' : List ℕ) → length flash ≡ 65536 → length eeprom ≡ 1024
-      → a < 0x1000000 → length d ≡ 8 → ruled a command ≡ Legal x → legal_staged (command_at command x) ≡ true
+      → a < 0x1000000 → length d ≡ 8 → ruled a command ≡ Some x → legal_staged (command_at command x) ≡ true
       → can_step (programming n (command_at command x)) (data_to n.plate.own.0 n.plate.group.0 d) flash eeprom
       ≡ answered n (command_at command x) (show_of n.plate.own.0 n.plate.group.0 d) flash' eeprom'
       → (s : Staged) → legal_staged s ≡ true

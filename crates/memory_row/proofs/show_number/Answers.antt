@@ -12,12 +12,12 @@ pub returns-then-eeprom-ne-EEPROM_CELLS : goal.returns-then-eeprom-ne-EEPROM_CEL
 unfolding shown_number
 returns-then-eeprom-ne-EEPROM_CELLS c = simp (ne_eqb _ 1024 c.if-eeprom-ne-EEPROM_CELLS.true, eq-eqb _ 65536 c.if-flash-ne-FLASH_CELLS.false)
 
-pub returns-in-Legal : goal.returns-in-Legal
+pub returns-in-Some : goal.returns-in-Some
 unfolding shown_number
-returns-in-Legal c =
-    simp (eq-eqb _ 65536 c.if-flash-ne-FLASH_CELLS.false, eq-eqb _ 1024 c.if-eeprom-ne-EEPROM_CELLS.false, ← c.in-Legal.ensures)
+returns-in-Some c =
+    simp (eq-eqb _ 65536 c.if-flash-ne-FLASH_CELLS.false, eq-eqb _ 1024 c.if-eeprom-ne-EEPROM_CELLS.false, ← c.in-Some.ensures)
 
-pub returns-in-Illegal : goal.returns-in-Illegal
+pub returns-in-None : goal.returns-in-None
 unfolding shown_number
-returns-in-Illegal c =
-    simp (eq-eqb _ 65536 c.if-flash-ne-FLASH_CELLS.false, eq-eqb _ 1024 c.if-eeprom-ne-EEPROM_CELLS.false, ← c.in-Illegal.ensures)
+returns-in-None c =
+    simp (eq-eqb _ 65536 c.if-flash-ne-FLASH_CELLS.false, eq-eqb _ 1024 c.if-eeprom-ne-EEPROM_CELLS.false, ← c.in-None.ensures)

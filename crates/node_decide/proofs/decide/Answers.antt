@@ -40,9 +40,9 @@ returns-then-is_response c =
       c.if-is_response.true,
     ) c.refuse-then-is_response.ensures
 
-pub returns-in-Handled : goal.returns-in-Handled
+pub returns-in-Some : goal.returns-in-Some
 unfolding decided
-returns-in-Handled c =
+returns-in-Some c =
     simp (
       c.if-not-full.false,
       ← c.is_deaf.ensures,
@@ -53,12 +53,12 @@ returns-in-Handled c =
       c.if-is_response.false,
       ← c.type_of.ensures.0,
       ← c.look_up.ensures,
-      c.in-Handled.is,
+      c.in-Some.is,
     ) c.accepted.ensures
 
-pub returns-in-Unhandled : goal.returns-in-Unhandled
+pub returns-in-None : goal.returns-in-None
 unfolding decided
-returns-in-Unhandled c =
+returns-in-None c =
     simp (
       c.if-not-full.false,
       ← c.is_deaf.ensures,
@@ -69,5 +69,5 @@ returns-in-Unhandled c =
       c.if-is_response.false,
       ← c.type_of.ensures.0,
       ← c.look_up.ensures,
-      c.in-Unhandled.is,
-    ) c.refuse-in-Unhandled.ensures
+      c.in-None.is,
+    ) c.refuse-in-None.ensures

@@ -2,21 +2,21 @@
 -- Assumes nothing.
 use Rattle.node_request.proofs.stage.Goals as goal
 
-pub returns-in-Legal : goal.returns-in-Legal
-returns-in-Legal c =
+pub returns-in-Some : goal.returns-in-Some
+returns-in-Some c =
     simp (
       ← c.address_in-at.ensures,
       ← c.byte_at-command.ensures,
       ← c.rule.ensures,
-      c.in-Legal.is,
+      c.in-Some.is,
       ← c.command_at.ensures,
     ) c.does.ensures
 
-pub returns-in-Illegal : goal.returns-in-Illegal
-returns-in-Illegal c =
+pub returns-in-None : goal.returns-in-None
+returns-in-None c =
     simp (
       ← c.address_in-at.ensures,
       ← c.byte_at-command.ensures,
       ← c.rule.ensures,
-      c.in-Illegal.is,
+      c.in-None.is,
     ) c.refuse.ensures
