@@ -10,6 +10,9 @@ use Rattle.node_port.proofs.silent.Reads as silent-reads
 use Rattle.node_port.specs.contracts.is_closed.{signature as is-closed-signature}
 use Rattle.node_port.proofs.is_closed.Kinds as is-closed-kinds
 use Rattle.node_port.proofs.is_closed.Reads as is-closed-reads
+use Rattle.node_port.specs.contracts.first_start.{signature as first-start-signature}
+use Rattle.node_port.proofs.first_start.Kinds as first-start-kinds
+use Rattle.node_port.proofs.first_start.Reads as first-start-reads
 use Rattle.node_port.specs.contracts.held_after_bad.{signature as held-after-bad-signature}
 use Rattle.node_port.proofs.held_after_bad.Kinds as held-after-bad-kinds
 use Rattle.node_port.proofs.held_after_bad.Reads as held-after-bad-reads
@@ -28,3 +31,8 @@ pub held_after_bad_tight : (κs : Lfts 0) (a : ArgsD held-after-bad-signature κ
     (s s' : AtExit (ended_of 0 held-after-bad-kinds.ps held-after-bad-kinds.r) κs)
     → held-after-bad-reads.Post κs a r s → held-after-bad-reads.Post κs a r' s' → r ≡ r'
 held_after_bad_tight κs a r r' s s' p q = p ∙ sym q
+
+pub first_start_tight : (κs : Lfts 1) (a : ArgsD first-start-signature κs) (r r' : ResD first-start-signature κs)
+    (s s' : AtExit (ended_of 1 first-start-kinds.ps first-start-kinds.r) κs)
+    → first-start-reads.Post κs a r s → first-start-reads.Post κs a r' s' → r ≡ r'
+first_start_tight κs a r r' s s' p q = p ∙ sym q
