@@ -1,21 +1,22 @@
-// The UART port, for a byte and for a piece: whether it is open, an answer with no reply, and what stays held of a bad frame.
+// The UART port, for a byte and for a piece: whether it listens, a refusal, the frame in fifteen bytes, and what stays held of a bad one.
 #![tactic(auto)]
 
 ghost use Rattle.std.specs.Prelude.{◌≡◌, ◌≤◌, ◌==◌, length, position};
+ghost use Rattle.memory_address.specs.Places.{full};
 ghost use Rattle.node_rules.specs.declared.Noise.TheVariants.{KeepFromNext};
 ghost use Rattle.node_rules.specs.Record.{receiving};
 ghost use Rattle.node_rules.specs.Uart.{silent_on_uart, is_closed, kept_by, held_after_bad};
+ghost use Rattle.node_rules.specs.InNumbers.{refusal_number, uart_in_numbers};
+ghost use Rattle.node_port.specs.Internal.Port.{listens, judged};
 
-use node_rules::{Choices, Node, Noise, Pin, Receiver, UartAnswer};
+use node_rules::{Answer, Choices, Node, Noise, Pin, Receiver, Refusal};
 
-// No reply.
-pub fn silent(number: u8, n: Node) -> UartAnswer
-    ensures { result ≡ silent_on_uart number n }
+// A refusal: no reply.
+pub fn silent(refusal: Refusal, n: Node) -> Answer<30>
+    ensures { uart_in_numbers result ≡ silent_on_uart (refusal_number refusal) n }
 {
-    UartAnswer {
-        number,
-        count: 0,
-        replies: [0; 30],
+    Answer {
+        outcome: Err(refusal),
         node: n,
     }
 }
@@ -25,6 +26,22 @@ pub fn is_closed(p: Pin) -> bool
     ensures { result ≡ is_closed p }
 {
     matches!(p, Pin::CanOnly)
+}
+
+// 1, 2 and 3 in this order: whether a byte or a piece is listened to.
+pub fn listens(n: Node, flash: &[u8], eeprom: &[u8]) -> Result<(), Refusal>
+    ensures { result ≡ listens (full flash.now eeprom.now) n }
+{
+    if !node_frame::full(flash, eeprom) {
+        return Err(Refusal::WrongLength);
+    }
+    if is_closed(n.choices.pin) {
+        return Err(Refusal::ClosedPort);
+    }
+    if node_frame::is_deaf(n.mode) {
+        return Err(Refusal::TakesNoFrame);
+    }
+    Ok(())
 }
 
 // These bytes held.
@@ -66,5 +83,16 @@ pub fn held_after_bad(c: Choices, fifteen: [u8; 15]) -> Receiver
     match c.noise {
         Noise::KeepFromNext => from_next(fifteen),
         Noise::DropAll => node_record::none_held(),
+    }
+}
+
+// The frame in fifteen bytes, or what stays held of them where their sum or stop is wrong.
+pub fn judged(c: Choices, fifteen: [u8; 15]) -> Result<[u8; 12], Receiver>
+    ensures { result ≡ judged c fifteen }
+{
+    let mut frame = [0u8; 12];
+    match frame_uart::unwrap(&fifteen, &mut frame) {
+        Ok(()) => Ok(frame),
+        Err(_) => Err(held_after_bad(c, fifteen)),
     }
 }
