@@ -1,17 +1,18 @@
--- What stays held of bytes is what stands from the first 0xAA on, as the place of the first tells.
+-- What stays held of bytes is what stands from the first 0xAA on, as the place of the first tells; and what is held with one byte more.
 -- Assumes nothing.
 use mathlib.Core.Path.{◌≡◌, ◌∙◌, refl, sym, ap}
 use mathlib.Core.Bool.{Bool, true, false, cond}
-use mathlib.Core.List.{List, [], ◌∷◌}
+use mathlib.Core.List.{List, [], ◌∷◌, ◌++◌}
+use mathlib.Core.Logic.{◌⊎◌, inl, inr}
 use Prim.Native.Nat.{ℕ, suc, ◌+◌, ◌-◌}
 use native.Mathlib.Omega.{arith}
 use lib.Dec.{eqb, ltb}
 use lib.ListN.{length, take, drop, length-drop, drop_of_length-le}
 use lib.Seq.{take_all}
-use borrow.Author.Tests.{ltb-false}
+use borrow.Author.Tests.{ltb-false, eq-eqb}
 use Rattle.std.specs.Prelude.{Option, Some, None, position, ◌==◌}
 use Rattle.std.specs.List.{position_or_len}
-use Rattle.node_rules.specs.Uart.{from_start}
+use Rattle.node_rules.specs.Uart.{from_start, held_with}
 
 abbrev start : ℕ → Bool
 start b = b == 0xAA
@@ -47,3 +48,9 @@ module _ (bs : List ℕ) where
       go true l h = cc
       go false l h =
           sym (from_first bs ∙ drop_of_length-le bs {i = position_or_len start bs} (ltb-false (position_or_len start bs) (length bs) l))
+
+-- a byte behind bytes that are held, or an 0xAA, is held with them
+pub held_behind : (xs : List ℕ) (b : ℕ) → (length xs ≡ 0 → ⊥) ⊎ (b ≡ 0xAA) → held_with xs b ≡ xs ++ (b ∷ [])
+held_behind [] b (inl m) = absurd (m refl)
+held_behind [] b (inr e) = rw (eq-eqb b 0xAA e) refl
+held_behind (x ∷ xs) b o = refl
