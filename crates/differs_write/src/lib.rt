@@ -43,7 +43,7 @@ pub fn differences(recipe: &[u8], image: &[u8], output: &mut [u8]) -> Difference
     if image.len() != FLASH_CELLS {
         return other_length(recipe);
     }
-    let mut last = [0u32; 1024];
+    let mut last = [None; 1024];
     let mut places = [0u32; 2048];
     match walk::look_over(recipe, image, &mut last, &mut places) {
         Walked::Refused { number, place } => Differences::Refused {

@@ -1,5 +1,5 @@
 // The walk over a recipe's items: each is looked at for a fault, and whether it is kept.
-ghost use Rattle.std.specs.Prelude.{◌≡◌, ◌<◌, ◌≤◌, length, get_or, replicate};
+ghost use Rattle.std.specs.Prelude.{◌≡◌, ◌<◌, ◌≤◌, length, get_or, replicate, None};
 ghost use Rattle.memory_address.specs.Places.{flash_cells};
 ghost use Rattle.differs_write.specs.Internal.Standing.{AtBlock};
 ghost use Rattle.differs_write.specs.Internal.Steps.{keeps_at, last_after, erases_of_kind, next_walk, Small, Found};
@@ -23,7 +23,7 @@ pub enum Walked {
 }
 
 // Whether the item at a place is kept: all but a Block that stands already.
-fn keeps(recipe: &[u8], place: usize, image: &[u8], last: &mut [u32]) -> bool
+fn keeps(recipe: &[u8], place: usize, image: &[u8], last: &mut [Option<u32>]) -> bool
     requires { (place < length recipe.now) × (get_or recipe.now place 0 ≡ 0x02 → AtBlock recipe.now place image.now last.old) }
     ensures { (result ≡ keeps_at recipe.now place image.now last.old)
         × (last.new ≡ last_after recipe.now place last.old) }
@@ -71,8 +71,8 @@ fn next(w: Walk, kind: u8, kept: bool) -> Walk
 }
 
 // Looks at every item: for a fault, and whether it is kept. `places` gets the places of those that are dropped.
-pub fn look_over(recipe: &[u8], image: &[u8], last: &mut [u32], places: &mut [u32]) -> Walked
-    requires { (length image.now ≡ flash_cells) × (last.old ≡ replicate 1024 0) × (length places.old ≡ 2048) }
+pub fn look_over(recipe: &[u8], image: &[u8], last: &mut [Option<u32>], places: &mut [u32]) -> Walked
+    requires { (length image.now ≡ flash_cells) × (last.old ≡ replicate 1024 None) × (length places.old ≡ 2048) }
     ensures { Found recipe.now image.now result places.new }
 {
     let mut w = Walk {

@@ -3,36 +3,18 @@
 -- Assumes nothing.
 use Rattle.base.proofs.Bytes.{bytes_by}
 use Rattle.recipe_fault.proofs.Walking.{at_item}
-use Rattle.differs_write.proofs.Seeing.{seen_start, seen_open, seen_fault, seen_done, seen_small, seen_table, seen_room, seen_block, dropped_room, seen_next, seen_nearer}
+use Rattle.differs_write.proofs.Seeing.{seen_start, seen_open, seen_fault, seen_done, seen_small, seen_block, dropped_room, seen_next, seen_nearer}
 use native.Mathlib.Omega.{arith}
 use Rattle.differs_write.proofs.walk.look_over.Goals as goal
 
 pub loop-w-init : goal.loop-w-init
 loop-w-init c = seen_start c.args.recipe.now c.args.image.now c.args.last.now c.args.places.now c.requires.0 c.requires.1 c.requires.2
 
-pub shape_of-last-then-ended : goal.shape_of-last-then-ended
-shape_of-last-then-ended c = seen_table c.args.recipe.now c.args.image.now c.loop-w.last c.loop-w.places c.loop-w.w c.loop-w.invariant c.args.last.now c.requires.1
-
-pub shape_of-places-then-ended : goal.shape_of-places-then-ended
-shape_of-places-then-ended c = seen_room c.args.recipe.now c.args.image.now c.loop-w.last c.loop-w.places c.loop-w.w c.loop-w.invariant c.args.places.now c.requires.2
-
 pub returns-then-ended : goal.returns-then-ended
 returns-then-ended c = seen_done c.args.recipe.now c.args.image.now c.loop-w.last c.loop-w.places c.loop-w.w c.loop-w.invariant c.if-recipe-place.true c.if-ended.true
 
-pub shape_of-last-then-recipe-place : goal.shape_of-last-then-recipe-place
-shape_of-last-then-recipe-place c = seen_table c.args.recipe.now c.args.image.now c.loop-w.last c.loop-w.places c.loop-w.w c.loop-w.invariant c.args.last.now c.requires.1
-
-pub shape_of-places-then-recipe-place : goal.shape_of-places-then-recipe-place
-shape_of-places-then-recipe-place c = seen_room c.args.recipe.now c.args.image.now c.loop-w.last c.loop-w.places c.loop-w.w c.loop-w.invariant c.args.places.now c.requires.2
-
 pub returns-then-recipe-place : goal.returns-then-recipe-place
 returns-then-recipe-place c = seen_open c.args.recipe.now c.args.image.now c.loop-w.last c.loop-w.places c.loop-w.w c.loop-w.invariant c.if-recipe-place.true c.if-ended.false
-
-pub shape_of-last-then-fault-ne0 : goal.shape_of-last-then-fault-ne0
-shape_of-last-then-fault-ne0 c = seen_table c.args.recipe.now c.args.image.now c.loop-w.last c.loop-w.places c.loop-w.w c.loop-w.invariant c.args.last.now c.requires.1
-
-pub shape_of-places-then-fault-ne0 : goal.shape_of-places-then-fault-ne0
-shape_of-places-then-fault-ne0 c = seen_room c.args.recipe.now c.args.image.now c.loop-w.last c.loop-w.places c.loop-w.w c.loop-w.invariant c.args.places.now c.requires.2
 
 pub returns-then-fault-ne0 : goal.returns-then-fault-ne0
 returns-then-fault-ne0 c = seen_fault c.args.recipe.now c.args.image.now c.loop-w.last c.loop-w.places c.loop-w.w c.loop-w.invariant c.fault_at-fault.result c.if-recipe-place.false c.fault_at-fault.ensures c.if-fault-ne0.true
