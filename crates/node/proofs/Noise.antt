@@ -18,9 +18,7 @@ use Rattle.node_rules.specs.declared.Noise.{Noise}
 use Rattle.node_rules.specs.declared.Noise.TheVariants.{KeepFromNext}
 use Rattle.node_rules.specs.declared.Choices.{Choices}
 use Rattle.node_rules.specs.declared.Node.{Node}
-use Rattle.node_rules.specs.declared.Answer.{Answer}
-use Rattle.node_rules.specs.declared.UartAnswer.{UartAnswer}
-use Rattle.node_rules.specs.declared.Restarted.{Restarted}
+use Rattle.node_rules.specs.Numbered.{Answer, UartAnswer, Restarted}
 use Rattle.node_rules.specs.Record.{holding, held_of, tidied, fresh_node}
 use Rattle.node_rules.specs.Outcomes.{is_deaf}
 use Rattle.node_rules.specs.Step.{Step, after, can_step}

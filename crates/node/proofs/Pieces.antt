@@ -12,7 +12,7 @@ use Rattle.frame_rules.specs.Frame.{type_of}
 use Rattle.node_rules.specs.declared.Pin.TheVariants.{CanAndUart}
 use Rattle.node_rules.specs.declared.Mode.TheVariants.{Normal}
 use Rattle.node_rules.specs.declared.Node.{Node}
-use Rattle.node_rules.specs.declared.UartAnswer.{UartAnswer}
+use Rattle.node_rules.specs.Numbered.{UartAnswer}
 use Rattle.node_rules.specs.Record.{tidied}
 use Rattle.node_rules.specs.Requests.{is_programming}
 use Rattle.node_rules.specs.Outcomes.{is_deaf}

@@ -6,8 +6,7 @@ use mathlib.Core.List.{List}
 use Prim.Native.Nat.{ℕ}
 use Rattle.memory_address.specs.Places.{full}
 use Rattle.node_rules.specs.declared.Node.{Node}
-use Rattle.node_rules.specs.declared.Effect.{Effect}
-use Rattle.node_rules.specs.declared.Replies.{Replies}
+use Rattle.node_rules.specs.Numbered.{Effect, Replies}
 use Rattle.node_rules.specs.Record.{tidied}
 use Rattle.node_rules.specs.Requests.{data_in}
 use Rattle.node_rules.specs.Outcomes.{decided}

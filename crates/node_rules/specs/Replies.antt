@@ -13,7 +13,7 @@ use Rattle.node_rules.specs.declared.Plate.{Plate}
 use Rattle.node_rules.specs.declared.Node.{Node}
 use Rattle.node_rules.specs.declared.Reply.{Reply}
 use Rattle.node_rules.specs.declared.Reply.TheVariants.{Silent, Entered, Hardware, Firmware, Described, Device, Echoed, Cells}
-use Rattle.node_rules.specs.declared.Replies.{Replies}
+use Rattle.node_rules.specs.Numbered.{Replies}
 use Rattle.node_rules.specs.Requests.{data_in}
 
 -- a reply of this type with these eight data bytes

@@ -9,9 +9,7 @@ use Rattle.node_rules.specs.declared.Memory.{Memory}
 use Rattle.node_rules.specs.declared.Memory.TheVariants.{Kept, Bootfl, Written, Erased}
 use Rattle.node_rules.specs.declared.Next.{Next}
 use Rattle.node_rules.specs.declared.Next.TheVariants.{Stays, Programs, Waits}
-use Rattle.node_rules.specs.declared.Effect.{Effect}
-use Rattle.node_rules.specs.declared.Replies.{Replies}
-use Rattle.node_rules.specs.declared.Answer.{Answer}
+use Rattle.node_rules.specs.Numbered.{Effect, Replies, Answer}
 use Rattle.node_rules.specs.Record.{with_mode, tidied}
 use Rattle.node_rules.specs.Requests.{data_in}
 use Rattle.node_rules.specs.Outcomes.{decided}

@@ -10,7 +10,7 @@ use lib.ListN.{length, drop, length-append, length-drop}
 use lib.Seq.{take_at, drop-append-add, drop-drop}
 use Rattle.base.specs.Parts.{part, patch}
 use Rattle.node_rules.specs.declared.Node.{Node}
-use Rattle.node_rules.specs.declared.Answer.{Answer}
+use Rattle.node_rules.specs.Numbered.{Answer}
 use Rattle.node_rules.specs.Step.{Step, after, can_step}
 use Rattle.node_rules.specs.Runs.{state}
 use Rattle.recipe.specs.Frames.{joined}
