@@ -19,8 +19,7 @@ use Rattle.recipe.specs.Items.{Recipe, printed}
 use Rattle.recipe.specs.Frames.{frame_count}
 use Rattle.recipe.specs.Reading.{Stop, at_end, fault, reading, recipe_of}
 use Rattle.recipe.specs.Translation.{answer_at, checked}
-use Rattle.differs_rules.specs.declared.Differences.{Differences}
-use Rattle.differs_rules.specs.declared.Differences.TheVariants.{Kept, Refused}
+use Rattle.differs_rules.specs.Differences.{Differences, Kept, Refused}
 use Rattle.differs_rules.specs.Keeping.{block_count}
 use Rattle.differs_rules.specs.Writing.{kept_of, unless_refused, answered, differences}
 use Rattle.differs_write.specs.contracts.differences.{signature}

@@ -4,7 +4,7 @@ use contract.Lifetimes.{Lfts}
 use borrow.Fn.World.{ArgsD, ResD}
 use denote.Triple.Clauses.{AtExit}
 use borrow.Fn.Kinds.{ended_of}
-use Rattle.differs_rules.specs.declared.Differences.{Differences}
+use Rattle.differs_rules.specs.Differences.{Differences}
 use Rattle.differs_write.specs.contracts.differences as differences
 use Rattle.differs_write.proofs.differences.Kinds as differences-kinds
 use Rattle.differs_write.proofs.differences.Reads as differences-reads

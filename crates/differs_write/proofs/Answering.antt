@@ -10,14 +10,11 @@ use lib.ListN.{length, take, drop}
 use lib.Seq.{length-take-le}
 use Rattle.base.specs.Parts.{patch}
 use Rattle.memory_address.specs.Places.{flash_cells}
-use Rattle.recipe.specs.declared.Translated.{Translated}
-use Rattle.recipe.specs.declared.Translated.TheVariants.{Frames, Refused as Fault}
+use Rattle.recipe.specs.Translation.{Translated, Frames, Refused as Fault, checked}
 use Rattle.recipe.specs.Items.{printed}
 use Rattle.recipe.specs.Frames.{frame_count}
 use Rattle.recipe.specs.Reading.{recipe_of}
-use Rattle.recipe.specs.Translation.{checked}
-use Rattle.differs_rules.specs.declared.Differences.{Differences}
-use Rattle.differs_rules.specs.declared.Differences.TheVariants.{Kept, Refused}
+use Rattle.differs_rules.specs.Differences.{Differences, Kept, Refused}
 use Rattle.differs_rules.specs.Writing.{kept_of, differences, differences_output}
 use Rattle.differs_rules.proofs.Answering.{fault_first, image_then, room_last, else_kept, refusal_untouched, output_kept}
 use Rattle.differs_write.specs.Taken.{BytesIfKept}

@@ -17,12 +17,11 @@ use borrow.Author.Tests.{eqb-true, eqb-false, ne_eqb, ltb-true, ltb-false}
 use Rattle.base.specs.Parts.{Bytes, part}
 use Rattle.base.proofs.Choice.{by_cond, cond_false}
 use Rattle.memory_address.specs.Places.{flash_cells}
-use Rattle.recipe.specs.declared.Translated.TheVariants.{Refused as Fault}
+use Rattle.recipe.specs.Translation.{Refused as Fault, answer_at, checked}
 use Rattle.recipe.specs.Items.{Item, printed, opened}
 use Rattle.recipe.specs.Frames.{frame_count}
 use Rattle.recipe.specs.Faults.{kind_of, body_length, fault_at}
 use Rattle.recipe.specs.Reading.{Reading, Stop, at_end, fault, size_of, items_at, with_items, reading, recipe_of}
-use Rattle.recipe.specs.Translation.{answer_at, checked}
 use Rattle.recipe_fault.specs.Internal.Steps.{read_on, AtItem}
 use Rattle.recipe_fault.proofs.Faulting.{kind_at}
 use Rattle.recipe_fault.proofs.Walking.{read_start, on_end, on_fault, on_next, fewer, not_ended, item_inside}

@@ -2,15 +2,13 @@
 use Rattle.std.specs.Prelude.{ℕ, ◌+◌, ◌/◌, ◌≤◌, ◌<◌, ◌≡◌, Bool, true, cond, not, List, eqb, length, get_or, set, take, drop, Option, Some, None}
 use Rattle.base.specs.Parts.{Bytes, part}
 use Rattle.memory_same.specs.Same.{same}
-use Rattle.recipe.specs.declared.Translated.{Translated}
-use Rattle.recipe.specs.declared.Translated.TheVariants.{Frames, Refused as Fault}
+use Rattle.recipe.specs.Translation.{Translated, Frames, Refused as Fault, checked}
 use Rattle.recipe.specs.Items.{printed}
 use Rattle.recipe.specs.Frames.{frame_count}
 use Rattle.recipe.specs.Faults.{body_length, address_of}
 use Rattle.recipe.specs.Reading.{recipe_of}
-use Rattle.recipe.specs.Translation.{checked}
-use Rattle.differs_rules.specs.declared.Differences.{Differences}
-use Rattle.differs_rules.specs.declared.Differences.TheVariants as differs
+use Rattle.differs_rules.specs.Differences.{Differences}
+use Rattle.differs_rules.specs.Differences as differs
 use Rattle.differs_rules.specs.Keeping.{block_count}
 use Rattle.differs_rules.specs.Writing.{kept_of}
 use Rattle.differs_write.specs.declared.walk.Walk.{Walk}
