@@ -17,7 +17,7 @@ use borrow.Author.Tests.{eqb-true, eqb-false, ne_eqb, ltb-true, ltb-false}
 use Rattle.base.specs.Parts.{Bytes, part}
 use Rattle.base.proofs.Choice.{by_cond, cond_false}
 use Rattle.memory_address.specs.Places.{flash_cells}
-use Rattle.recipe.specs.Translation.{Refused as Fault, answer_at, checked}
+use Rattle.recipe.specs.Translation.{Refused as Fault, answer_at, checked, fault_number, found_number}
 use Rattle.recipe.specs.Items.{Item, printed, opened}
 use Rattle.recipe.specs.Frames.{frame_count}
 use Rattle.recipe.specs.Faults.{kind_of, body_length, fault_at}
@@ -123,7 +123,7 @@ one_or_none b k =
     by_cond (λ (n : ℕ). n ≤ 1) b _ _ (λ _. by_cond (λ (n : ℕ). n ≤ 1) (eqb k 0x02) _ _ (λ _. omega arith) (λ _. omega arith))
     (λ _. omega arith)
 
-module _ (s image : List ℕ) (last : List (Option ℕ)) (places : List ℕ) (w : Walk) (k : Seen s image last places w) where
+module _ {s image : List ℕ} {last : List (Option ℕ)} {places : List ℕ} {w : Walk} (k : Seen s image last places w) where
   -- ---- how it ends
 
   stops : (t : Stop) → read_on s w.place w.number w.ended ≡ record { items = []; stop = t } → (reading s).stop ≡ t
