@@ -30,7 +30,7 @@ fn shorten(rt: &HostRuntime, recipe: &[u8], image: &[u8]) -> ExitCode
 {
     let mut shorter = [0u8; ROOM];
     match differs_write::differences(recipe, image, &mut shorter) {
-        Ok(kept) => output::write_recipe(rt, &shorter[..kept.size], kept, recipe.len()),
+        Ok(kept) => output::write_recipe(rt, &shorter[..kept.size], kept.erases, recipe.len()),
         Err(refusal) => output::refuse(rt, refusal),
     }
 }

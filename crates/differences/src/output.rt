@@ -4,7 +4,7 @@ ghost use Rattle.std.specs.Prelude.{◌≢◌, ◌≤◌, length};
 ghost use Rattle.recipe.specs.Translation as translation;
 ghost use Rattle.differs_rules.specs.Differences.{fault_number};
 
-use differs_rules::{Fault, Kept, Refusal};
+use differs_rules::{Fault, Refusal};
 use std::fs::File;
 use std::io::Write;
 use std::process::ExitCode;
@@ -85,8 +85,9 @@ fn close(rt: &HostRuntime, mut file: File, name: &[u8]) -> Result<(), ExitCode> 
 
 // Writes the recipe into the file of this name, which is made anew or emptied first; a message where that fails.
 fn write_file(rt: &HostRuntime, name: &[u8], recipe: &[u8]) -> Result<(), ExitCode> {
-    let mut file = program_io::open_overwrite(rt, name)
-        .map_err(|error| program_io::unwritten(rt, name, error))?;
+    let mut file = program_io::open_overwrite(rt, name).map_err(|error| program_io::unwritten(
+        rt, name, error,
+    ))?;
     write_named(rt, &mut file, name, recipe)?;
     close(rt, file, name)
 }
@@ -94,8 +95,11 @@ fn write_file(rt: &HostRuntime, name: &[u8], recipe: &[u8]) -> Result<(), ExitCo
 // Writes the recipe into the file that the third argument names.
 fn write_argument(rt: &HostRuntime, recipe: &[u8]) -> Result<(), ExitCode> {
     let mut name = [0u8; 4096];
-    let n = program_io::arg(rt, 3, &mut name)
-        .map_err(|error| program_io::unwritten(rt, b"the recipe's name", error))?;
+    let n = program_io::arg(rt, 3, &mut name).map_err(|error| program_io::unwritten(
+        rt,
+        b"the recipe's name",
+        error,
+    ))?;
     write_file(rt, &name[..n], recipe)
 }
 
@@ -107,26 +111,24 @@ fn write_out(rt: &HostRuntime, recipe: &[u8]) -> Result<(), ExitCode> {
     write_named(rt, &mut rt.stdout(), b"standard output", recipe)
 }
 
-// Says how much is kept: the erases are the Blocks. Of the whole recipe's bytes `size` stay, and a Block that was dropped had 68.
-fn tell_kept(rt: &HostRuntime, kept: Kept, whole: usize)
-    requires { (kept.erases ≤ kept.size) × (kept.size ≤ whole) × (whole ≤ 139132) }
+// Says how many erases the recipe is: its Blocks. Of the whole one's bytes `size` stay, and a Block that was dropped had 68.
+fn tell_erases(rt: &HostRuntime, erases: usize, size: usize, whole: usize)
+    requires { (erases ≤ size) × (size ≤ whole) × (whole ≤ 139132) }
 {
-    let Kept { erases, size } = kept;
     let blocks = (whole - size) / 68 + erases;
     let _ = eprintln!(rt; "{erases} erases");
-    let _ = eprintln!(
-        rt;
+    let _ = eprintln!(rt;
         "{erases} of {blocks} Blocks stay, {size} of {whole} bytes: the others already stand in the image"
     );
 }
 
-// Writes the recipe that is kept, and then says how many erases it is, made from one of `whole` bytes.
-pub fn write_recipe(rt: &HostRuntime, recipe: &[u8], kept: Kept, whole: usize) -> ExitCode
-    requires { (kept.erases ≤ kept.size) × (kept.size ≤ whole) × (whole ≤ 139132) }
+// Writes the recipe, and then says how many erases it is, made from one of `whole` bytes.
+pub fn write_recipe(rt: &HostRuntime, recipe: &[u8], erases: usize, whole: usize) -> ExitCode
+    requires { (erases ≤ length recipe.now) × (length recipe.now ≤ whole) × (whole ≤ 139132) }
 {
     if let Err(status) = write_out(rt, recipe) {
         return status;
     }
-    tell_kept(rt, kept, whole);
+    tell_erases(rt, erases, recipe.len(), whole);
     ExitCode::SUCCESS
 }

@@ -5,10 +5,10 @@ use mathlib.Core.Path.{◌≡◌, ◌∙◌, sym, ap, ap₂}
 use mathlib.Core.List.{List, ◌++◌}
 use Prim.Native.Nat.{ℕ, ◌+◌, ◌-◌, ◌*◌, ◌≤◌, ◌<◌}
 use native.Mathlib.Omega.{arith}
-use native.Mathlib.Nat.{zero-add, sub-zero}
+use native.Mathlib.Nat.{zero-add}
 use lib.ListN.{length, take, drop}
 use lib.Seq.{length-take-le}
-use Rattle.std.specs.Prelude.{Result, Ok, Err}
+use Rattle.std.specs.Prelude.{Err}
 use Rattle.base.specs.Parts.{patch}
 use Rattle.memory_address.specs.Places.{flash_cells}
 use Rattle.recipe.specs.declared.Refusal as recipe
@@ -45,44 +45,41 @@ module _ (s image o : List ℕ) where
   pub other_answer : (count : ℕ) → checked s ≡ Frames count → (length image ≡ flash_cells → ⊥) → Answered s image o (Refused 36 0) o
   other_answer count e n = refused 36 0 (image_then s image (length o) count e n)
 
-  -- the items that are kept
-  module _ (right : length image ≡ flash_cells) {places : List ℕ} {dropped erases : ℕ} (k : FoundKept s image dropped erases places) where
-    -- their bytes
-    long : length (cut_out s 0 (take dropped places)) + 68 * dropped ≡ length s
-    long = omega (arith, cut_length s 0 (take dropped places) k.upward, length-take-le dropped places k.few)
+-- the items that are kept
+module _ {s image places : List ℕ} {dropped erases : ℕ} (k : FoundKept s image dropped erases places) where
+  -- their bytes
+  long : length (cut_out s 0 (take dropped places)) + 68 * dropped ≡ length s
+  long = omega (arith, cut_length s 0 (take dropped places) k.upward, length-take-le dropped places k.few)
 
-    pub found_within : 68 * dropped ≤ length s
-    found_within = omega (arith, long)
+  pub found_within : 68 * dropped ≤ length s
+  found_within = omega (arith, long)
 
-    sized : length s - 68 * dropped ≡ length (printed (kept_of s image))
-    sized = omega (arith, long, ap length k.items)
+  sized : length s - 68 * dropped ≡ length (printed (kept_of s image))
+  sized = omega (arith, long, ap length k.items)
 
+  module _ (right : length image ≡ flash_cells) (o : List ℕ) where
     -- no room for them
     pub found_short : length o < length s - 68 * dropped → Answered s image o (Refused 26 0) o
     found_short h =
-        refused 26 0 (room_last s image (length o) (frame_count (recipe_of s)) k.accepted right (omega (arith, h, sized)))
-
-    -- the places as they are lent
-    lent : take (dropped - 0) places ≡ take dropped places
-    lent = ap (λ (n : ℕ). take n places) (sub-zero dropped)
+        refused s image o 26 0
+        (room_last s image (length o) (frame_count (recipe_of s)) k.accepted right (omega (arith, h, sized)))
 
     module _ (h : length s - 68 * dropped ≤ length o) where
       -- what the copying asks
-      pub found_fits : Upward 0 (take (dropped - 0) places) (length s) × (length (cut_out s 0 (take (dropped - 0) places)) ≤ length o)
-      found_fits = rw lent (k.upward, omega (arith, h, long))
+      pub found_fits : Upward 0 (take dropped places) (length s) × (length (cut_out s 0 (take dropped places)) ≤ length o)
+      found_fits = (k.upward, omega (arith, h, long))
 
       given : differences s image (length o) ≡ Kept erases (length s - 68 * dropped)
       given =
           else_kept s image (length o) (frame_count (recipe_of s)) k.accepted right (omega (arith, h, sized))
           ∙ ap₂ Kept (sym k.blocks) (sym sized)
 
-      pub found_answer : (o₁ : List ℕ) → o₁ ≡ patch o 0 (cut_out s 0 (take (dropped - 0) places))
+      pub found_answer : (o₁ : List ℕ) → o₁ ≡ patch o 0 (cut_out s 0 (take dropped places))
           → Answered s image o (Kept erases (length s - 68 * dropped)) o₁
       unfolding patch
       found_answer o₁ q = (
         sym given,
         q
-            ∙ ap (λ (ps : List ℕ). patch o 0 (cut_out s 0 ps)) lent
             ∙ ap₂ (λ (x : List ℕ) (n : ℕ). x ++ drop n o) k.items
             (zero-add (length (cut_out s 0 (take dropped places))) ∙ ap length k.items ∙ sym sized)
             ∙ sym (output_kept s image o erases (length s - 68 * dropped) given),

@@ -9,7 +9,7 @@ use lib.ListN.{length, get_or, take, drop, length-append, length-drop, drop_of_l
 use lib.Seq.{take_all, drop-cons}
 use Rattle.base.specs.Parts.{part, patch}
 use Rattle.base.specs.Internal.Putting.{put_at}
-use Rattle.base.proofs.Patched.{part_length, put_fits, length_patch}
+use Rattle.base.proofs.Patched.{part_length, put_fits}
 use Rattle.recipe_item.proofs.Putting.{Sent, sent_start, sent_more, sent_end, sent_long}
 use Rattle.differs_write.specs.Internal.Cutting.{cut_out, Upward}
 use Rattle.differs_write.proofs.Cutting.{upward_below}

@@ -17,21 +17,21 @@ use borrow.Author.Tests.{eqb-true, eqb-false, ne_eqb, ltb-true, ltb-false}
 use Rattle.base.specs.Parts.{Bytes, part}
 use Rattle.base.proofs.Choice.{by_cond, cond_false}
 use Rattle.memory_address.specs.Places.{flash_cells}
-use Rattle.recipe.specs.Translation.{Refused as Fault, answer_at, checked, fault_number, found_number}
+use Rattle.recipe.specs.Translation.{Refused as Fault, answer_at, checked}
 use Rattle.recipe.specs.Items.{Item, printed, opened}
 use Rattle.recipe.specs.Frames.{frame_count}
 use Rattle.recipe.specs.Faults.{kind_of, body_length, fault_at}
 use Rattle.recipe.specs.Reading.{Reading, Stop, at_end, fault, size_of, items_at, with_items, reading, recipe_of}
 use Rattle.recipe_fault.specs.Internal.Steps.{read_on, AtItem}
 use Rattle.recipe_fault.proofs.Faulting.{kind_at}
-use Rattle.recipe_fault.proofs.Walking.{read_start, on_end, on_fault, on_next, fewer, not_ended, item_inside}
+use Rattle.recipe_fault.proofs.Walking.{at_item, read_start, on_end, on_fault, on_next, fewer, not_ended, item_inside}
 use Rattle.differs_rules.specs.Keeping.{left_by_all, kept_items, kept_recipe, block_count}
 use Rattle.differs_rules.specs.Writing.{kept_of}
 use Rattle.differs_rules.proofs.Keeping.{kept_append, left_append, blocks_append}
 use Rattle.differs_write.specs.declared.walk.Walk.{Walk}
 use Rattle.differs_write.specs.Internal.Cutting.{Upward}
 use Rattle.differs_write.specs.Internal.Standing.{AtBlock}
-use Rattle.differs_write.specs.Internal.Steps.{keeps_at, last_after, erases_of_kind, next_walk, Small, FoundKept}
+use Rattle.differs_write.specs.Internal.Steps.{keeps_at, last_after, erases_of_kind, next_walk, FoundKept}
 use Rattle.differs_write.proofs.Cutting.{cut_to, upward_more, upward_last, cut_more, cut_last, cut_all}
 use Rattle.differs_write.proofs.Showing.{Shows, shows_start}
 use Rattle.differs_write.proofs.Turning.{Turned, written, turned, at_block}
@@ -168,17 +168,19 @@ module _ {s image : List ℕ} {last : List (Option ℕ)} {places : List ℕ} {w 
         blocks = k.blocks ∙ ap (λ (is : List Item). block_count (kept_items is image)) (sym all);
       }
 
-  pub seen_small : Small w
-  seen_small = record {
-    place = omega (arith, k.far, k.few);
-    number = omega (arith, k.few);
-    dropped = omega (arith, k.less, k.few);
-    erases = omega (arith, k.fewer_erases, k.few);
-  }
-
   -- ---- an item more
 
-  module _ (at : AtItem s w.place w.number w.ended) (all-bytes : Bytes s) where
+  -- it is one, and its place finds room among those that are dropped
+  item_there : w.place < length s → 0 ≡ fault_at (drop w.place s) w.number w.ended → AtItem s w.place w.number w.ended
+  item_there here sound = at_item s w.place w.number w.ended 0 here k.few sound refl
+
+  pub dropped_room : w.place < length s → 0 ≡ fault_at (drop w.place s) w.number w.ended → w.dropped < length places
+  dropped_room here sound = omega (arith, k.less, fewer s w.place w.number w.ended (item_there here sound), k.room)
+
+  module _ (here : w.place < length s) (sound : 0 ≡ fault_at (drop w.place s) w.number w.ended) (all-bytes : Bytes s) where
+    at : AtItem s w.place w.number w.ended
+    at = item_there here sound
+
     abbrev t : List ℕ
     t = drop w.place s
 
@@ -192,9 +194,6 @@ module _ {s image : List ℕ} {last : List (Option ℕ)} {places : List ℕ} {w 
     seen_block l e =
         at_block s image last (left_by_all k.items image) w.place w.number w.ended at k.some k.shows all-bytes
         (kind_at s w.place ∙ e) k.table l small k.before
-
-    pub dropped_room : w.dropped < length places
-    dropped_room = omega (arith, k.less, fewer s w.place w.number w.ended at, k.room)
 
     -- what is cut behind the item
     cut_next : (b : Bool) → turn.keeps ≡ b
@@ -212,7 +211,7 @@ module _ {s image : List ℕ} {last : List (Option ℕ)} {places : List ℕ} {w 
     cut_next false e =
         let one : take (w.dropped + 1) (set places w.dropped w.place) ≡ take w.dropped places ++ (w.place ∷ []) =
         ap (λ (n : ℕ). take n (set places w.dropped w.place)) (add-one w.dropped)
-        ∙ take-suc-set places w.dropped w.place dropped_room in
+        ∙ take-suc-set places w.dropped w.place (dropped_room here sound) in
         let size : w.place + size_of t ≡ w.place + 68 = ap (λ (n : ℕ). w.place + n) (turn.size e) in (
           ap₂ (λ (ps : List ℕ) (n : ℕ). cut_to s 0 ps n) one size
               ∙ cut_last s 0 (take w.dropped places) w.place
@@ -295,7 +294,3 @@ module _ {s image : List ℕ} {last : List (Option ℕ)} {places : List ℕ} {w 
         e ∙ ap₂ (λ (x : ℕ) (b : Bool). next_walk w x b) (sym (kind_at s w.place)) (p ∙ turn.said) in
         subst (λ (l : List (Option ℕ)). Seen s image l (set places w.dropped w.place) w') (sym q)
         (subst (Seen s image (last_after s w.place last) (set places w.dropped w.place)) (sym step) seen_turned)
-
-    -- each step comes nearer to the end
-    pub seen_nearer : (r : Bool) (w' : Walk) → w' ≡ next_walk w (get_or s w.place 0) r → w.place < w'.place
-    seen_nearer r w' e = rw e (omega arith)

@@ -11,9 +11,9 @@ use native.Mathlib.Omega.{arith}
 use lib.Dec.{eqb, ltb}
 use lib.ListN.{length, get_or, set, replicate, get_or-replicate}
 use lib.Seq.{ext_get_or, get_or-set_same, get_or-set_other}
-use borrow.Author.Tests.{eqb-true, eqb-false, ne_eqb, ltb-true, ltb-false}
+use borrow.Author.Tests.{eqb-true, eqb-false, ltb-true, ltb-false}
 use Rattle.base.specs.Parts.{part, patch}
-use Rattle.base.proofs.Choice.{true_or_false, cond_false}
+use Rattle.base.proofs.Choice.{true_or_false}
 use Rattle.base.proofs.Patched.{part_length, part_cell, part_patch, elsewhere_patch, length_patch}
 use Rattle.memory_address.specs.Places.{flash_cells}
 use Rattle.memory_same.specs.Same.{same}

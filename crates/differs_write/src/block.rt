@@ -8,12 +8,7 @@ ghost use Rattle.differs_write.specs.Internal.Steps.{remembered_at};
 
 // The cells of the block at an address: the recipe's own where a Block before named the block, which has its cells there, else the
 // image's.
-fn standing<'a>(
-    recipe: &'a [u8],
-    image: &'a [u8],
-    address: usize,
-    last: Option<u32>,
-) -> &'a [u8]
+fn standing<'a>(recipe: &'a [u8], image: &'a [u8], address: usize, last: Option<u32>) -> &'a [u8]
     requires { (address + 64 ≤ length image.now) × IfSome last (λ from. from + 64 ≤ length recipe.now) }
     ensures { result.now ≡ standing recipe.now image.now address last }
 {
@@ -42,5 +37,8 @@ pub fn turn(recipe: &[u8], place: usize, image: &[u8], last: &mut [Option<u32>])
     let block = address / 64;
     let before = last[block];
     last[block] = Some(from as u32);
-    memory_same::same(standing(recipe, image, address, before), &recipe[from..from + 64])
+    memory_same::same(
+        standing(recipe, image, address, before),
+        &recipe[from..from + 64],
+    )
 }

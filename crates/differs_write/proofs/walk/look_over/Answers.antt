@@ -1,13 +1,11 @@
 -- `differs_write::walk::look_over` meets its contract. Before each turn the walk is one that the items so far lead to (`Seen`); what is left
 -- of the recipe falls.
 -- Assumes nothing.
-use mathlib.Core.Path.{refl}
 use borrow.Author.Tests.{not-false, not-true}
 use native.Mathlib.Omega.{arith}
 use Rattle.base.proofs.Bytes.{bytes_by}
 use Rattle.recipe.proofs.Answers.{numbered}
-use Rattle.recipe_fault.proofs.Walking.{at_item}
-use Rattle.differs_write.proofs.Seeing.{seen_start, seen_open, seen_fault, seen_done, seen_small, seen_block, dropped_room, seen_next, seen_nearer}
+use Rattle.differs_write.proofs.Seeing.{seen_start, seen_open, seen_fault, seen_done, seen_block, dropped_room, seen_next}
 use Rattle.differs_write.proofs.walk.look_over.Goals as goal
 
 pub loop-w-init : goal.loop-w-init
@@ -17,10 +15,17 @@ pub returns-in-Err : goal.returns-in-Err
 returns-in-Err c = seen_fault c.loop-w.invariant _ c.loop-w-test.true c.in-Err.ensures (numbered c.in-Err.fault)
 
 pub keeps-kept-requires : goal.keeps-kept-requires
-keeps-kept-requires c = ?
+keeps-kept-requires c =
+    let bytes = bytes_by c.args.recipe.now (λ i l. omega (arith, c.type_inv.recipe i)) in
+    (c.loop-w-test.true, seen_block c.loop-w.invariant c.loop-w-test.true c.in_default.ensures bytes c.requires.0)
+
+pub bounds-places-w : goal.bounds-places-w
+bounds-places-w c = dropped_room c.loop-w.invariant c.loop-w-test.true c.in_default.ensures
 
 pub loop-w-preserved : goal.loop-w-preserved
-loop-w-preserved c = ?
+loop-w-preserved c =
+    let bytes = bytes_by c.args.recipe.now (λ i l. omega (arith, c.type_inv.recipe i)) in
+    seen_next c.loop-w.invariant c.loop-w-test.true c.in_default.ensures bytes c.keeps-kept.result c.keeps-kept.new.last c.next-w.result c.keeps-kept.ensures.0 c.keeps-kept.ensures.1 c.next-w.ensures
 
 pub returns-then-not-w : goal.returns-then-not-w
 returns-then-not-w c = seen_open c.loop-w.invariant c.loop-w-test.false (not-true _ c.if-not-w.true)
