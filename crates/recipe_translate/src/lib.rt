@@ -12,7 +12,7 @@ ghost use Rattle.recipe_translate.specs.Taken.{BytesIfTaken};
 
 use cursor::START;
 use memory_address::{Group, Module};
-use recipe::{Fault, Refusal};
+use recipe::{Fault, Numbers, Refusal};
 
 // Reads a recipe through: its frame count, or the refusal of the first item at fault, or of the end. A recipe that is taken was
 // read, and so is known to hold bytes.
@@ -43,11 +43,13 @@ fn put_frames(input: &[u8], output: &mut [u8])
         ≡ joined (frames_of (recipe_of input.now))
         ++ drop (12 * frame_count (recipe_of input.now)) output.old }
 {
-    let m = Module(base::byte_at(input, 1));
-    let g = Group(base::byte_at(input, 2));
+    let numbers = Numbers {
+        module: Module(base::byte_at(input, 1)),
+        group: Group(base::byte_at(input, 2)),
+    };
     let mut c = START;
     while c.place < input.len() {
-        recipe_item::put_item(input, c.place, output, 12 * c.frames, m, g);
+        recipe_item::put_item(input, c.place, output, 12 * c.frames, numbers);
         c = cursor::next(input, c);
     }
 }
