@@ -104,7 +104,7 @@ const TABLE: [Kind; 15] = [
 fn first_of(t: u16, rows: &[Kind]) -> Option<Kind>
     ensures { result ≡ find (λ k. k.frame_type == t) rows.now }
 {
-    rows.iter().find(|k| k.frame_type == t).copied()
+    rows.iter().copied().find(|k| k.frame_type == t)
 }
 
 // The table's first row of that type.
