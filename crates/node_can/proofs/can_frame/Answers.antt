@@ -1,7 +1,7 @@
 -- `node_can::can_frame` meets its contract: the record is tidied, and what is decided is done to the memories and answered over them, or
 -- refused.
 -- Assumes nothing.
-use mathlib.Core.Path.{◌≡◌, ◌∙◌, refl, sym, ap}
+use mathlib.Core.Path.{◌∙◌, refl, sym, ap}
 use Rattle.std.specs.Prelude.{Ok, Err}
 use Rattle.node_rules.specs.InNumbers.{effect_in_numbers}
 use Rattle.node_can.proofs.Stepping.{stepped}
