@@ -13,11 +13,9 @@ use lib.Seq.{length-take-le, drop-append-le}
 use borrow.Author.Tests.{ltb-true, ltb-false}
 use Rattle.base.proofs.Choice.{by_cond}
 use Rattle.node_rules.specs.declared.Node.{Node}
-use Rattle.recipe.specs.declared.Translated.{Translated}
-use Rattle.recipe.specs.declared.Translated.TheVariants.{Frames, Refused}
 use Rattle.recipe.specs.Frames.{frames_of, joined}
 use Rattle.recipe.specs.Reading.{recipe_of}
-use Rattle.recipe.specs.Translation.{unless_short, checked, translated, output_by, translated_output}
+use Rattle.recipe.specs.Translation.{Translated, Frames, Refused, unless_short, checked, translated, output_by, translated_output}
 use Rattle.update_deliver.specs.Delivering.{room_for, left, deliver_by, deliver_step}
 use Rattle.update_deliver.specs.Internal.Handing.{handed, handed_over, after_hand_over}
 
