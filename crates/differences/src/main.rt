@@ -9,7 +9,6 @@ mod output;
 
 ghost use Rattle.std.specs.Prelude.{◌≤◌, length};
 
-use differs_rules::Differences;
 use input::Input;
 use std::process::ExitCode;
 
@@ -30,12 +29,9 @@ fn shorten(rt: &HostRuntime, recipe: &[u8], image: &[u8]) -> ExitCode
     requires { length recipe.now ≤ 139132 }
 {
     let mut shorter = [0u8; ROOM];
-    let differences = differs_write::differences(recipe, image, &mut shorter);
-    match differences {
-        Differences::Refused { number, place } => output::refuse(rt, number, place),
-        Differences::Kept { erases, size } => {
-            output::write_recipe(rt, &shorter[..size], erases, recipe.len())
-        }
+    match differs_write::differences(recipe, image, &mut shorter) {
+        Ok(kept) => output::write_recipe(rt, &shorter[..kept.size], kept.erases, recipe.len()),
+        Err(refusal) => output::refuse(rt, refusal),
     }
 }
 
