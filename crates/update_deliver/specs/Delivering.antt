@@ -2,8 +2,7 @@
 use Rattle.std.specs.Prelude.{ℕ, ◌*◌, ◌/◌, cond, List, ◌++◌, ltb, length, drop}
 use Rattle.node_rules.specs.declared.Node.{Node}
 use Rattle.recipe.specs.Frames.{joined}
-use Rattle.recipe.specs.Translation.{Translated, Frames, Refused, translated, output_by}
-use Rattle.recipe.specs.Translation.{in_numbers as answer_in_numbers}
+use Rattle.recipe.specs.Translation.{Translated, Frames, Refused, in_numbers, translated, output_by}
 use Rattle.update_deliver.specs.declared.Delivered.{Delivered as Answered}
 use Rattle.update_rules.specs.Delivery.{Delivery, delivered}
 use Rattle.update_deliver.specs.Taken.{first_frames}
@@ -24,11 +23,11 @@ told_count (Refused number place) = 0
 told_count (Frames count) = count
 
 -- what the code answers, in document 01's numbers
-abbrev pub in_numbers : Answered → Delivered
-in_numbers d = record {
-  translated = answer_in_numbers d.translated;
+abbrev pub delivered_in_numbers : Answered → Delivered
+delivered_in_numbers d = record {
+  translated = in_numbers d.translated;
   node = d.node;
-  count = told_count (answer_in_numbers d.translated);
+  count = told_count (in_numbers d.translated);
 }
 
 -- all that a call leaves

@@ -5,7 +5,7 @@
 mod handing;
 
 ghost use Rattle.std.specs.Prelude.{◌≡◌, length};
-ghost use Rattle.update_deliver.specs.Delivering.{in_numbers, room_for, left, deliver_step};
+ghost use Rattle.update_deliver.specs.Delivering.{delivered_in_numbers, room_for, left, deliver_step};
 
 use node_rules::Node;
 use recipe::Refusal;
@@ -35,7 +35,7 @@ pub fn deliver(
     frames: &mut [u8],
     answers: &mut [u8],
 ) -> Delivered
-    ensures { left (in_numbers result) flash.new eeprom.new frames.new answers.new
+    ensures { left (delivered_in_numbers result) flash.new eeprom.new frames.new answers.new
         ≡ deliver_step recipe.now node flash.old eeprom.old frames.old answers.old }
 {
     let most = room(frames.len(), answers.len());
