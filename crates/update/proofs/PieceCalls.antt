@@ -21,11 +21,10 @@ use Rattle.node_piece_rules.proofs.Cutting.{tidied_state, EachHeard}
 use Rattle.node.specs.Calls.{UartPiece, UartPieces, none, more}
 use Rattle.node.proofs.Cutting.{left_over, cut, stays_tidy, heard_throughout, heard_next}
 use Rattle.node.proofs.Pieces.{uart_piece_is_tidy}
-use Rattle.recipe.specs.declared.Translated.{Translated}
-use Rattle.recipe.specs.declared.Translated.TheVariants.{Frames}
 use Rattle.recipe.specs.Items.{Recipe, Legal, printed}
 use Rattle.recipe.specs.Frames.{frames_of, joined, frame_count}
 use Rattle.recipe.specs.Plain.{Memories}
+use Rattle.recipe.specs.Translation.{Translated, Frames}
 use Rattle.recipe.proofs.Framing.{frames_twelve}
 use Rattle.update_rules.specs.Delivery.{Delivery}
 use Rattle.update_rules.specs.Mirror.{answers_of}
