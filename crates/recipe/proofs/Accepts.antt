@@ -7,12 +7,11 @@ use mathlib.Core.List.{List, [], ◌++◌, append-nil}
 use Prim.Native.Nat.{ℕ, suc, ◌+◌, ◌-◌, ◌*◌, ◌≤◌, ◌<◌}
 use native.Mathlib.Omega.{arith}
 use lib.ListN.{length, drop}
-use Rattle.recipe.specs.declared.Translated.TheVariants.{Frames, Refused}
 use Rattle.recipe.specs.Items.{Recipe, Legal, printed}
 use Rattle.recipe.specs.Frames.{frames_of, joined, frame_count}
 use Rattle.recipe.specs.Reading.{at_end, with_items, read_from, reading, recipe_of}
-use Rattle.recipe.specs.Translation.{checked, translated, output_by}
-use Rattle.recipe.proofs.Answers.{with-room, too_short}
+use Rattle.recipe.specs.Translation.{Frames, Refused, checked, translated, output_by}
+use Rattle.recipe.proofs.Answers.{with_room, too_short}
 use Rattle.recipe.proofs.Steps.{read_end}
 use Rattle.recipe.proofs.Printing.{read_printed}
 
@@ -38,7 +37,7 @@ module _ (r : Recipe) (legal : Legal r) where
 
   -- where the output has room
   pub accepts_legal : (room : ℕ) → 12 * frame_count r ≤ room → translated (printed r) room ≡ Frames (frame_count r)
-  accepts_legal = with-room (printed r) (frame_count r) checked_printed
+  accepts_legal = with_room (printed r) (frame_count r) checked_printed
 
   pub output_legal : (output : List ℕ)
       → output_by (Frames (frame_count r)) (printed r) output ≡ joined (frames_of r) ++ drop (12 * frame_count r) output

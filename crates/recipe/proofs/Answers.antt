@@ -5,24 +5,23 @@ use mathlib.Core.List.{List}
 use Prim.Native.Nat.{ℕ, ◌*◌, ◌≤◌, ◌<◌}
 use lib.ListN.{length}
 use borrow.Author.Tests.{lt-ltb, le-ltb}
-use Rattle.recipe.specs.declared.Translated.TheVariants.{Frames, Refused}
-use Rattle.recipe.specs.Translation.{checked, translated, output_by}
+use Rattle.recipe.specs.Translation.{Frames, Refused, checked, translated, output_by}
 
 -- 26 comes last: any other refusal stands whatever the output
-pub refusal-first : (input : List ℕ) (number place : ℕ) → checked input ≡ Refused number place → (room : ℕ)
+pub refusal_first : (input : List ℕ) (number place : ℕ) → checked input ≡ Refused number place → (room : ℕ)
     → translated input room ≡ Refused number place
 unfolding translated
-refusal-first input number place e room = rw e
+refusal_first input number place e room = rw e
 
 -- a refusal leaves the output as it was
-pub refusal-untouched : (input output : List ℕ) (number place : ℕ) → translated input (length output) ≡ Refused number place
+pub refusal_untouched : (input output : List ℕ) (number place : ℕ) → translated input (length output) ≡ Refused number place
     → output_by (translated input (length output)) input output ≡ output
-refusal-untouched input output number place e = rw e
+refusal_untouched input output number place e = rw e
 
 module _ (input : List ℕ) (count : ℕ) (e : checked input ≡ Frames count) (room : ℕ) where
-  pub with-room : 12 * count ≤ room → translated input room ≡ Frames count
+  pub with_room : 12 * count ≤ room → translated input room ≡ Frames count
   unfolding translated
-  with-room h = rw (e, le-ltb room (12 * count) h)
+  with_room h = rw (e, le-ltb room (12 * count) h)
 
   -- "Last: 26 output shorter than needed, place 0"
   pub too_short : room < 12 * count → translated input room ≡ Refused 26 0

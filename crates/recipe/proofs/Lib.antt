@@ -9,3 +9,4 @@ pub mod Framing
 pub mod Refusals
 pub mod Plainly
 pub mod Agreeing
+pub mod Tight

@@ -5,7 +5,7 @@ use mathlib.Core.Path.{◌≡◌, refl, sym, ap, subst, ◌∙◌}
 use mathlib.Core.Bool.{Bool, true, false, not, ◌||◌, cond, true≢false}
 use mathlib.Core.List.{List, [], ◌∷◌, ◌++◌, append_assoc}
 use mathlib.Core.Logic.{◌⊎◌, ⊎_elim, inl, inr}
-use Prim.Native.Nat.{ℕ, zero, suc, ◌+◌, ◌-◌, ◌*◌, ◌/◌, ◌%◌, ◌≤◌, ◌<◌}
+use Prim.Native.Nat.{ℕ, zero, suc, ◌+◌, ◌*◌, ◌/◌, ◌%◌, ◌≤◌, ◌<◌}
 use native.Mathlib.Omega.{arith}
 use native.Mathlib.Nat.{eq-or-lt_of_le}
 use lib.Dec.{ltb, eqb}
@@ -19,9 +19,8 @@ use Rattle.base.specs.Parts.{part, Bytes}
 use Rattle.recipe.specs.Items.{Item, block, row, Legal, LegalItem, LegalItems, address_bytes, printed_item, printed_items, printed}
 use Rattle.recipe.specs.Faults.{kind_of, known, address_of, out_of_place, fault_at}
 use Rattle.recipe.specs.Reading.{Reading, Stop, at_end, fault, size_of, items_at, with_items, read_from, reading, recipe_of}
-use Rattle.recipe.specs.declared.Translated.TheVariants.{Frames, Refused}
 use Rattle.recipe.specs.Frames.{frame_count}
-use Rattle.recipe.specs.Translation.{answer_at, unless_short, checked, translated}
+use Rattle.recipe.specs.Translation.{Frames, Refused, answer_at, unless_short, checked, translated}
 use Rattle.recipe.proofs.Order.{Faultless, faultless}
 use Rattle.recipe.proofs.Steps.{read_end, read_fault, read_on}
 

@@ -6,12 +6,11 @@ use mathlib.Core.List.{List, [], ◌++◌, append-nil}
 use Prim.Native.Nat.{ℕ, suc, ◌+◌, ◌-◌, ◌≤◌, ◌<◌}
 use native.Mathlib.Omega.{arith}
 use lib.ListN.{length}
-use Rattle.recipe.specs.declared.Translated.TheVariants.{Refused}
 use Rattle.recipe.specs.Items.{Item, Recipe, Legal, LegalItems, printed, opened}
 use Rattle.recipe.specs.Frames.{frame_count}
 use Rattle.recipe.specs.Faults.{fault_at}
 use Rattle.recipe.specs.Reading.{Reading, Stop, at_end, read_from, reading, recipe_of}
-use Rattle.recipe.specs.Translation.{answer_at, checked}
+use Rattle.recipe.specs.Translation.{Refused, answer_at, checked}
 use Rattle.recipe.proofs.Order.{faultless}
 use Rattle.recipe.proofs.Steps.{read_end, read_fault}
 use Rattle.recipe.proofs.Printing.{read_opened, read_printed}

@@ -1,9 +1,31 @@
 -- What the translator answers, and the output after it. Document 01, "The recipe".
-use Rattle.std.specs.Prelude.{ℕ, ◌*◌, true, false, cond, List, ◌++◌, ltb, length, drop}
-use Rattle.recipe.specs.declared.Translated.{Translated}
-use Rattle.recipe.specs.declared.Translated.TheVariants.{Frames, Refused}
+use Rattle.std.specs.Prelude.{ℕ, ◌*◌, true, false, cond, List, ◌++◌, ltb, length, drop, Result, Ok, Err}
+use Rattle.recipe.specs.declared.Fault.{Fault}
+use Rattle.recipe.specs.declared.Fault.TheVariants.{NoLeave, UnknownKind, CutShort, OutOfPlace, IllegalAddress, TooManyItems, ShortOutput}
+use Rattle.recipe.specs.declared.Refusal.{Refusal}
 use Rattle.recipe.specs.Frames.{frames_of, joined, frame_count}
 use Rattle.recipe.specs.Reading.{Stop, at_end, fault, reading, recipe_of}
+
+-- what becomes of a recipe: how many frames, or the refusal's number and the place it names
+pub data Translated : Type 0 where
+  Frames : ℕ → Translated
+  Refused : ℕ → ℕ → Translated
+
+-- "20 no Leave yet", "21 unknown kind", "22 body cut short", "23 out of place", "24 address illegal", "25 it would be item 2,049",
+-- "26 output shorter than needed"
+abbrev pub fault_number : Fault → ℕ
+fault_number NoLeave = 20
+fault_number UnknownKind = 21
+fault_number CutShort = 22
+fault_number OutOfPlace = 23
+fault_number IllegalAddress = 24
+fault_number TooManyItems = 25
+fault_number ShortOutput = 26
+
+-- what the code answers, in document 01's numbers
+abbrev pub in_numbers : Result ℕ Refusal → Translated
+in_numbers (Ok count) = Frames count
+in_numbers (Err r) = Refused (fault_number r.fault) r.place
 
 -- document 01's number and value for an answer: 0 and the frame count, or a refusal's number and the place
 abbrev pub translated_number : Translated → ℕ

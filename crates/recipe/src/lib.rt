@@ -2,9 +2,50 @@
 // translates is in the crate translate.
 #![tactic(auto)]
 
-// What becomes of a recipe: how many frames, or the refusal's number and the place it names.
+ghost use Rattle.std.specs.Prelude.{◌≡◌};
+ghost use Rattle.recipe.specs.Translation.{fault_number};
+
+use memory_address::{Group, Module};
+
+// The numbers that a recipe is for.
 #[derive(Clone, Copy)]
-pub enum Translated {
-    Frames(usize),
-    Refused { number: u8, place: usize },
+pub struct Numbers {
+    pub module: Module,
+    pub group: Group,
+}
+
+// Why a recipe is refused.
+#[derive(Clone, Copy, PartialEq, Eq)]
+pub enum Fault {
+    NoLeave,
+    UnknownKind,
+    CutShort,
+    OutOfPlace,
+    IllegalAddress,
+    TooManyItems,
+    ShortOutput,
+}
+
+impl Fault {
+    // Document 01's number of a fault.
+    pub fn number(self) -> u8
+        ensures { result ≡ fault_number self }
+    {
+        match self {
+            Fault::NoLeave => 20,
+            Fault::UnknownKind => 21,
+            Fault::CutShort => 22,
+            Fault::OutOfPlace => 23,
+            Fault::IllegalAddress => 24,
+            Fault::TooManyItems => 25,
+            Fault::ShortOutput => 26,
+        }
+    }
+}
+
+// A refused recipe: the fault, and the place that it names.
+#[derive(Clone, Copy, PartialEq, Eq)]
+pub struct Refusal {
+    pub fault: Fault,
+    pub place: usize,
 }
