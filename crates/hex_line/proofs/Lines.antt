@@ -2,14 +2,14 @@
 -- those of the first line, and the other lines start behind its ending.
 -- Assumes nothing.
 use mathlib.Core.Path.{◌≡◌, ◌∙◌, refl, sym, ap}
-use mathlib.Core.Bool.{true, false, ◌||◌, false≢true}
+use mathlib.Core.Bool.{true, false, ◌||◌}
 use mathlib.Core.List.{List, [], ◌∷◌, ◌++◌}
 use mathlib.Core.Logic.{◌⊎◌, inl, inr}
 use Prim.Native.Nat.{ℕ, zero, suc, ◌+◌, ◌-◌, ◌*◌, ◌≤◌, ◌<◌}
 use native.Mathlib.Omega.{arith}
 use lib.ListN.{length, drop, replicate, length-append, length-drop}
 use lib.Seq.{drop_at, drop-drop}
-use Rattle.std.specs.Prelude.{Option, Some, None}
+use Rattle.std.specs.Prelude.{Some, None}
 use Rattle.base.specs.Parts.{Bytes}
 use Rattle.base.proofs.Bytes.{byte_of}
 use Rattle.base.proofs.Choice.{cond_true, cond_false, true_or_false}
@@ -17,7 +17,7 @@ use Rattle.hex_rules.specs.Text.{lines_of}
 use Rattle.hex_rules.specs.Record.{pairs_of, record_of, count_of, bad_digit, bad_length}
 use Rattle.hex_rules.proofs.Once.{pairs_bytes}
 use Rattle.hex_line.specs.declared.Line.{Line}
-use Rattle.hex_line.specs.Internal.Lines.{ending, filled, good_line, line_by, line_at}
+use Rattle.hex_line.specs.Internal.Lines.{ending, good_line, line_by, line_at}
 use Rattle.hex_line.proofs.Choosing.{none_some, some_same}
 use Rattle.hex_line.proofs.Splitting.{Split, split_first, ending_length}
 use Rattle.hex_line.proofs.Formed.{Formed, formed}

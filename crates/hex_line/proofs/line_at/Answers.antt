@@ -2,7 +2,7 @@
 -- them the characters that were read are the first line.
 -- Assumes nothing.
 use native.Mathlib.Omega.{arith}
-use mathlib.Core.Path.{◌≡◌, ◌∙◌, sym, ap}
+use mathlib.Core.Path.{◌∙◌}
 use Rattle.hex_line.proofs.Found.{no_rest, no_count, short, no_ending, no_digits, other_count, next_fits, found}
 use Rattle.hex_line.proofs.line_at.Goals as goal
 

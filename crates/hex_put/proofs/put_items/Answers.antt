@@ -16,9 +16,10 @@ loop-item-init c =
     let a = c.args in
     let none : 0 * a.size ≡ 0 = omega arith in
     let items = c.chunks_exact-item-items.ensures in
-    let into = c.into_iter-item-iterator.ensures.into_iter_gives in
-    (along_start a.places.now a.size _ (ap chunks_exact_size into ∙ items.size) (ap chunks_exact_rest into ∙ items.rest),
-      rw none (putting_start a.output.now a.at a.kind a.size a.places.now (length a.places.now / a.size) 0 a.first c.requires.2))
+    let into = c.into_iter-item-iterator.ensures.into_iter_gives in (
+      along_start a.places.now a.size _ (ap chunks_exact_size into ∙ items.size) (ap chunks_exact_rest into ∙ items.rest),
+      rw none (putting_start a.output.now a.at a.kind a.size a.places.now (length a.places.now / a.size) 0 a.first c.requires.2),
+    )
 
 pub put_touched-to-requires : goal.put_touched-to-requires
 put_touched-to-requires c =
@@ -39,13 +40,14 @@ loop-item-preserved c =
     let e = length-append l.yielded (c.in-Some.item ∷ []) in
     let step : (i + 1) * a.size ≡ i * a.size + a.size = omega arith in
     let here = along_item a.places.now a.size l.item-iterator i l.invariant.0 c.next.new.self _ s.0 s.1.0 s.1.1 in
-    rw e
-    (along_next a.places.now a.size l.item-iterator i l.invariant.0 c.next.new.self _ s.0 s.1.0 s.1.1 (i + 1) (omega arith),
+    rw e (
+      along_next a.places.now a.size l.item-iterator i l.invariant.0 c.next.new.self _ s.0 s.1.0 s.1.1 (i + 1) (omega arith),
       rw step (putting_next a.output.now a.at a.kind a.size a.places.now (length a.places.now / a.size) 0 a.first l.output l.to (i * a.size) l.address i
           l.invariant.1 _ _
           (along_more a.places.now a.size l.item-iterator i l.invariant.0 c.next.new.self _ s.0 s.1.0 s.1.1 c.requires.0.some)
           (c.put_touched-to.ensures.1 ∙ ap (λ (x : List ℕ). patch l.output l.to (touched_bytes a.kind l.address x)) here)
-          (c.put_touched-to.ensures.0 ∙ ap (λ (x : List ℕ). l.to + length (touched_bytes a.kind l.address x)) here)))
+          (c.put_touched-to.ensures.0 ∙ ap (λ (x : List ℕ). l.to + length (touched_bytes a.kind l.address x)) here)),
+    )
 
 pub returns : goal.returns
 returns c =

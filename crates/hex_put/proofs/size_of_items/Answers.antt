@@ -18,13 +18,14 @@ loop-item-preserved c =
     let s = c.in-Some.ensures.steps in
     let e = length-append l.yielded (c.in-Some.item ∷ []) in
     let step : (i + 1) * size ≡ i * size + size = omega arith in
-    rw e
-    (along_next p size l.item-iterator i l.invariant.0 c.next.new.self _ s.0 s.1.0 s.1.1 (i + 1) (omega arith),
+    rw e (
+      along_next p size l.item-iterator i l.invariant.0 c.next.new.self _ s.0 s.1.0 s.1.1 (i + 1) (omega arith),
       rw step (sized_next p size (length p / size) 0 l.all (i * size) i l.invariant.1 _
           (along_more p size l.item-iterator i l.invariant.0 c.next.new.self _ s.0 s.1.0 s.1.1 c.requires.some)
           (c.size_of-all.ensures.0
           ∙ ap (λ (x : List ℕ). length (touched_bytes 0 0 x)) (along_item p size l.item-iterator i l.invariant.0 c.next.new.self _ s.0 s.1.0 s.1.1))
-          c.size_of-all.ensures.1))
+          c.size_of-all.ensures.1),
+    )
 
 pub returns : goal.returns
 returns c =

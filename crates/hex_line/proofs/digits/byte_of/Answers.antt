@@ -1,6 +1,6 @@
 -- `hex_line::digits::byte_of` meets its contract, by the two digits.
 -- Assumes nothing.
-use mathlib.Core.Path.{◌≡◌, ◌∙◌, sym}
+use mathlib.Core.Path.{◌∙◌, sym}
 use native.Mathlib.Omega.{arith}
 use Rattle.hex_line.proofs.Choosing.{digit_found, high_missing, low_missing, both_found}
 use Rattle.hex_line.proofs.digits.byte_of.Goals as goal

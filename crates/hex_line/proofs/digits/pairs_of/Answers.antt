@@ -1,6 +1,6 @@
 -- `hex_line::digits::pairs_of` meets its contract: before each turn the bytes read so far, with those of the digits left, are all.
 -- Assumes nothing.
-use mathlib.Core.Path.{◌≡◌, ◌∙◌, sym}
+use mathlib.Core.Path.{◌∙◌, sym}
 use native.Mathlib.Omega.{arith}
 use Rattle.hex_line.proofs.Pairs.{done_start, bad_pair, turn, all_read}
 use Rattle.hex_line.proofs.digits.pairs_of.Goals as goal

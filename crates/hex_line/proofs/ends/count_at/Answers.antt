@@ -1,8 +1,6 @@
 -- `hex_line::ends::count_at` meets its contract, by its tests.
 -- Assumes nothing.
 use borrow.Author.Tests.{eq-eqb, ne_eqb, lt-ltb, le-ltb}
-use native.Mathlib.Omega.{arith}
-use mathlib.Core.Path.{◌≡◌, ◌∙◌}
 use Rattle.hex_line.specs.Internal.Reading.{count_at}
 use Rattle.hex_line.proofs.ends.count_at.Goals as goal
 

@@ -1,6 +1,5 @@
 -- `hex_line::ends::ending_at` meets its contract: each pattern.
 -- Assumes nothing.
-use mathlib.Core.Path.{◌≡◌}
 use native.Mathlib.Omega.{arith}
 use Rattle.hex_line.proofs.Ending.{ends_text, ends_lf, ends_cr_lf, ends_not}
 use Rattle.hex_line.proofs.ends.ending_at.Goals as goal
