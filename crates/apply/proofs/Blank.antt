@@ -8,7 +8,7 @@ use Rattle.node_rules.specs.declared.Pin.TheVariants.{CanOnly}
 use Rattle.node_rules.specs.declared.Noise.TheVariants.{KeepFromNext}
 use Rattle.node_rules.specs.declared.Staged.TheVariants.{Nothing}
 use Rattle.node_rules.specs.declared.Mode.TheVariants.{Programming}
-use Rattle.node_rules.specs.declared.Restarted.{Restarted}
+use Rattle.node_rules.specs.Numbered.{Restarted}
 use Rattle.node_rules.specs.Record.{plain, fresh_node}
 use Rattle.node_rules.specs.Restart.{restart_step}
 

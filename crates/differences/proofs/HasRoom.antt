@@ -4,7 +4,7 @@
 use mathlib.Core.Path.{◌≡◌, refl, sym, ap, ◌∙◌}
 use mathlib.Core.Bool.{Bool, true, false, cond}
 use mathlib.Core.List.{List}
-use mathlib.Core.Logic.{◌⊎◌, inl, inr}
+use mathlib.Core.Logic.{◌⊎◌, inl, inr, ⊎_elim}
 use Prim.Native.Nat.{ℕ, ◌≤◌}
 use native.Mathlib.Omega.{arith}
 use lib.Dec.{ltb, eqb}
@@ -19,8 +19,7 @@ use Rattle.recipe.specs.Items.{Recipe, printed}
 use Rattle.recipe.specs.Frames.{frame_count}
 use Rattle.recipe.specs.Reading.{Stop, at_end, fault, reading, recipe_of}
 use Rattle.recipe.specs.Translation.{answer_at, checked}
-use Rattle.differs_rules.specs.declared.Differences.{Differences}
-use Rattle.differs_rules.specs.declared.Differences.TheVariants.{Kept, Refused}
+use Rattle.differs_rules.specs.Differences.{Differences, Kept, Refused, in_numbers}
 use Rattle.differs_rules.specs.Keeping.{block_count}
 use Rattle.differs_rules.specs.Writing.{kept_of, unless_refused, answered, differences}
 use Rattle.differs_write.specs.contracts.differences.{signature}
@@ -100,6 +99,12 @@ module _ (recipe image : List ℕ) (room : ℕ) {answer : Differences} (said : a
           unless_said (kept_of recipe image) (length image) room number place
           (omega (arith, kept_of_within recipe image t, enough)) e
 
+  -- so it is not 26
+  pub answer_not_short : length recipe ≤ room → (number place : ℕ) → answer ≡ Refused number place → number ≡ 26 → ⊥
+  answer_not_short enough number place q n =
+      ⊎_elim (λ (w : (20 ≤ number) × (number ≤ 25)). omega (arith, w.1, n)) (λ (e : number ≡ 36). omega (arith, e, n))
+      (answer_refused enough number place q)
+
   -- a shorter recipe is no longer than the room and the whole one, and its Blocks are no more than its bytes
   pub answer_fits : (erases size : ℕ) → answer ≡ Kept erases size → (size ≤ room) × (size ≤ length recipe) × (erases ≤ size)
   unfolding differences checked
@@ -120,6 +125,6 @@ module _ (recipe image : List ℕ) (room : ℕ) {answer : Differences} (said : a
 -- the same of any call of `differences`, over its real contract: what is handed to it, and what it answers
 pub differences_has_room : (κs : Lfts 3) (a : ArgsD signature κs) (r : ResD signature κs) (s : AtExit (ended_of 3 kinds.ps kinds.r) κs)
     → reads.Post κs a r s → length a.0.now ≤ length a.1.1.0.now
-    → (number place : ℕ) → r ≡ Refused number place → ((20 ≤ number) × (number ≤ 25)) ⊎ (number ≡ 36)
+    → (number place : ℕ) → in_numbers r ≡ Refused number place → ((20 ≤ number) × (number ≤ 25)) ⊎ (number ≡ 36)
 differences_has_room κs a r s p =
     answer_refused a.0.now a.1.0.now (length a.1.1.0.now) p.0

@@ -9,8 +9,6 @@ mod output;
 
 ghost use Rattle.std.specs.Prelude.{◌≤◌, length};
 
-use differs_rules::Differences;
-use input::Input;
 use std::process::ExitCode;
 
 // The longest recipe, in bytes: Open, 2,046 Blocks of 68 bytes and Leave.
@@ -30,12 +28,9 @@ fn shorten(rt: &HostRuntime, recipe: &[u8], image: &[u8]) -> ExitCode
     requires { length recipe.now ≤ 139132 }
 {
     let mut shorter = [0u8; ROOM];
-    let differences = differs_write::differences(recipe, image, &mut shorter);
-    match differences {
-        Differences::Refused { number, place } => output::refuse(rt, number, place),
-        Differences::Kept { erases, size } => {
-            output::write_recipe(rt, &shorter[..size], erases, recipe.len())
-        }
+    match differs_write::differences(recipe, image, &mut shorter) {
+        Ok(kept) => output::write_recipe(rt, &shorter[..kept.size], kept.erases, recipe.len()),
+        Err(refusal) => output::refuse(rt, refusal),
     }
 }
 
@@ -51,10 +46,9 @@ fn shorten_recipe(rt: &HostRuntime, recipe: &[u8]) -> ExitCode
     requires { length recipe.now ≤ 139132 }
 {
     let mut cells = [0u8; CELLS];
-    let input = input::read_argument(rt, 2, &mut cells);
-    match input {
-        Input::Bytes(n) => shorten_by(rt, recipe, &cells, n),
-        Input::Unread => ExitCode::SUCCESS,
+    match program_io::read_argument(rt, 2, &mut cells) {
+        Some(n) => shorten_by(rt, recipe, &cells, n),
+        None => ExitCode::SUCCESS,
     }
 }
 
@@ -76,10 +70,9 @@ fn shorten_asked(rt: &HostRuntime, bytes: &[u8; ASKED], n: usize) -> ExitCode {
 // Makes the recipe shorter that the first argument names.
 fn shorten_file(rt: &HostRuntime) -> ExitCode {
     let mut bytes = [0u8; ASKED];
-    let input = input::read_argument(rt, 1, &mut bytes);
-    match input {
-        Input::Bytes(n) => shorten_asked(rt, &bytes, n),
-        Input::Unread => ExitCode::SUCCESS,
+    match program_io::read_argument(rt, 1, &mut bytes) {
+        Some(n) => shorten_asked(rt, &bytes, n),
+        None => ExitCode::SUCCESS,
     }
 }
 

@@ -14,15 +14,13 @@ use borrow.Author.Tests.{eqb-true, eqb-false, ltb-true, ltb-false}
 use Rattle.base.specs.Parts.{Bytes}
 use Rattle.base.proofs.Choice.{true_or_false}
 use Rattle.memory_address.specs.Places.{flash_cells}
-use Rattle.recipe.specs.declared.Translated.TheVariants.{Frames, Refused as Fault}
+use Rattle.recipe.specs.Translation.{Frames, Refused as Fault, answer_at, checked}
 use Rattle.recipe.specs.Items.{Recipe, Legal, printed}
 use Rattle.recipe.specs.Frames.{frame_count}
 use Rattle.recipe.specs.Reading.{Stop, at_end, fault, reading, recipe_of}
-use Rattle.recipe.specs.Translation.{answer_at, checked}
 use Rattle.recipe.proofs.Accepts.{recipe_printed, checked_printed}
 use Rattle.recipe.proofs.OnlyLegal.{only_printed}
-use Rattle.differs_rules.specs.declared.Differences.{Differences}
-use Rattle.differs_rules.specs.declared.Differences.TheVariants.{Kept, Refused}
+use Rattle.differs_rules.specs.Differences.{Differences, Kept, Refused}
 use Rattle.differs_rules.specs.Keeping.{kept_recipe, block_count}
 use Rattle.differs_rules.specs.Writing.{kept_of, differences, differences_output}
 use Rattle.differs_rules.proofs.KeptLegal.{kept_legal}

@@ -4,7 +4,7 @@
 -- to erase; only the laws of the parts look at their bounds.
 -- No law of another crate opens the rule: beside these, only examples that are computed do.
 -- Assumes nothing.
-use Rattle.std.specs.Prelude.{Option, Some, None}
+use Rattle.std.specs.Prelude.{Option, Some, None, Result, Ok, Err}
 use mathlib.Core.Path.{◌≡◌, refl, ap, sym}
 use mathlib.Core.Bool.{Bool, true, false, false≢true}
 use Prim.Native.Nat.{ℕ, ◌+◌, ◌-◌, ◌*◌, ◌%◌, ◌≤◌, ◌<◌}
@@ -17,8 +17,10 @@ use Rattle.base.proofs.Choice.{by_cond, both_true, true_both}
 use Rattle.memory_address.specs.declared.Address.TheVariants.{Flash, Eeprom}
 use Rattle.memory_address.specs.Rule.{multiple_in, rim, last_flash_row, last_block, first_eeprom_row, last_eeprom_row, cells_of}
 use Rattle.memory_address.specs.Rule.{in_flash, in_eeprom, row_of, read_row, write_row, block_of, ruled, protected}
-use Rattle.memory_address.specs.Rule.{is_flash, is_eeprom, is_legal, legal_flash, legal_eeprom, numbered}
+use Rattle.memory_address.specs.Rule.{is_flash, is_eeprom, is_legal, legal_flash, legal_eeprom, numbered, refusal_number, number_of}
 use Rattle.memory_address.specs.declared.Address.{Address}
+use Rattle.memory_address.specs.declared.Refusal.TheVariants.{WrongLength, Illegal}
+use Rattle.memory_address.specs.declared.Refusal.{Refusal}
 
 multiple_in_lem : (step low high a : ℕ) → multiple_in step low high a ≡ true → (low ≤ a) × (a ≤ high) × (a % step ≡ 0)
 multiple_in_lem step low high a e =
@@ -248,6 +250,20 @@ pub zero_numbered : (full legal : Bool) → numbered full legal ≡ 0 → (full 
 zero_numbered true true e = (refl, refl)
 zero_numbered true false e = absurd (suc-ne-zero 7 e)
 zero_numbered false legal e = absurd (suc-ne-zero 0 e)
+
+-- a refusal's number is never 0, and the number says which answer it is
+pub refused : (e : Refusal) → refusal_number e ≡ 0 → ⊥
+refused WrongLength z = absurd (suc-ne-zero 0 z)
+refused Illegal z = absurd (suc-ne-zero 7 z)
+
+pub number_says : (r r' : Result (Unit {0}) Refusal) → number_of r ≡ number_of r' → r ≡ r'
+number_says (Ok x) (Ok y) z = refl
+number_says (Ok x) (Err e) z = absurd (refused e (sym z))
+number_says (Err e) (Ok y) z = absurd (refused e z)
+number_says (Err WrongLength) (Err WrongLength) z = refl
+number_says (Err Illegal) (Err Illegal) z = refl
+number_says (Err WrongLength) (Err Illegal) z = let k : ◌≡◌ {A = ℕ} 1 8 = z in let b : ⊥ = omega arith in absurd b
+number_says (Err Illegal) (Err WrongLength) z = let k : ◌≡◌ {A = ℕ} 8 1 = z in let b : ⊥ = omega arith in absurd b
 
 -- a command that is legal anywhere is read, write or erase
 pub legal_command : (a command : ℕ) → is_legal (ruled a command) ≡ true → (command ≡ 0x01) ⊎ ((command ≡ 0x02) ⊎ (command ≡ 0x03))

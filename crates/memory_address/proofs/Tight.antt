@@ -14,6 +14,9 @@ use Rattle.memory_address.proofs.legal_flash.Reads as legal-flash-reads
 use Rattle.memory_address.specs.contracts.legal_eeprom.{signature as legal-eeprom-signature}
 use Rattle.memory_address.proofs.legal_eeprom.Kinds as legal-eeprom-kinds
 use Rattle.memory_address.proofs.legal_eeprom.Reads as legal-eeprom-reads
+use Rattle.memory_address.specs.contracts.Refusal.number.{signature as number-signature}
+use Rattle.memory_address.proofs.Refusal.number.Kinds as number-kinds
+use Rattle.memory_address.proofs.Refusal.number.Reads as number-reads
 
 pub rule_tight : (κs : Lfts 0) (a : ArgsD rule-signature κs) (r r' : ResD rule-signature κs)
     (s s' : AtExit (ended_of 0 rule-kinds.ps rule-kinds.r) κs)
@@ -29,3 +32,8 @@ pub legal_eeprom_tight : (κs : Lfts 0) (a : ArgsD legal-eeprom-signature κs) (
     (s s' : AtExit (ended_of 0 legal-eeprom-kinds.ps legal-eeprom-kinds.r) κs)
     → legal-eeprom-reads.Post κs a r s → legal-eeprom-reads.Post κs a r' s' → r ≡ r'
 legal_eeprom_tight κs a r r' s s' p q = p ∙ sym q
+
+pub number_tight : (κs : Lfts 0) (a : ArgsD number-signature κs) (r r' : ResD number-signature κs)
+    (s s' : AtExit (ended_of 0 number-kinds.ps number-kinds.r) κs)
+    → number-reads.Post κs a r s → number-reads.Post κs a r' s' → r ≡ r'
+number_tight κs a r r' s s' p q = p ∙ sym q

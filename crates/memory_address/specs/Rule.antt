@@ -1,8 +1,10 @@
 -- The address rule of document 01: "Legal rows (001, 5.7)". This is the one place where it stands. Proofs cite its laws, in
 -- proofs/Laws.antt; only examples that are computed open it.
-use Rattle.std.specs.Prelude.{ℕ, ◌%◌, Bool, true, false, ◌&&◌, cond, leb, ltb, eqb, Option, Some, None}
+use Rattle.std.specs.Prelude.{ℕ, ◌%◌, Bool, true, false, ◌&&◌, cond, leb, ltb, eqb, Option, Some, None, Result, Ok, Err}
 use Rattle.memory_address.specs.declared.Address.TheVariants.{Flash, Eeprom}
 use Rattle.memory_address.specs.declared.Address.{Address}
+use Rattle.memory_address.specs.declared.Refusal.TheVariants.{WrongLength, Illegal}
+use Rattle.memory_address.specs.declared.Refusal.{Refusal}
 
 -- a multiple of step from low to high, both in it
 abbrev pub multiple_in : ℕ → ℕ → ℕ → ℕ → Bool
@@ -92,3 +94,12 @@ ruled_number None = 8
 -- the number of a call that works at an address: 1 for a memory of the wrong length, then 8 for an illegal address, else 0
 abbrev pub numbered : Bool → Bool → ℕ
 numbered sized legal = cond sized (cond legal 0 8) 1
+
+-- document 01's number for a refusal, and for the answer of a call that may refuse: 0 where it is done
+abbrev pub refusal_number : Refusal → ℕ
+refusal_number WrongLength = 1
+refusal_number Illegal = 8
+
+abbrev pub number_of : {A : Type 0} → Result A Refusal → ℕ
+number_of (Ok x) = 0
+number_of (Err e) = refusal_number e

@@ -2,29 +2,48 @@
 #![tactic(auto)]
 
 ghost use Rattle.std.specs.Prelude.{◌≡◌, ◌<◌};
-ghost use Rattle.memory_address.specs.Rule.{multiple_in, row_of, block_of, ruled, legal_flash, legal_eeprom};
+ghost use Rattle.memory_address.specs.Rule.{multiple_in, row_of, block_of, ruled, legal_flash, legal_eeprom, refusal_number};
 
 // An address of FLASH, 0x000000 to 0x00FFFF.
-#[derive(Clone, Copy)]
+#[derive(Clone, Copy, PartialEq, Eq)]
 pub struct FlashAddress(pub u32);
 
 // A place of EEPROM, 0xF00000 to 0xF003FF.
-#[derive(Clone, Copy)]
+#[derive(Clone, Copy, PartialEq, Eq)]
 pub struct EepromPlace(pub u32);
 
 // A module number.
-#[derive(Clone, Copy)]
+#[derive(Clone, Copy, PartialEq, Eq)]
 pub struct Module(pub u8);
 
 // A group number.
-#[derive(Clone, Copy)]
+#[derive(Clone, Copy, PartialEq, Eq)]
 pub struct Group(pub u8);
 
 // The cells that an address selects.
-#[derive(Clone, Copy)]
+#[derive(Clone, Copy, PartialEq, Eq)]
 pub enum Address {
     Flash(FlashAddress),
     Eeprom(EepromPlace),
+}
+
+// Why a call that works at an address is refused: a memory of the wrong length, or else an illegal address or command.
+#[derive(Clone, Copy, PartialEq, Eq)]
+pub enum Refusal {
+    WrongLength,
+    Illegal,
+}
+
+impl Refusal {
+    // Document 01's number for it.
+    pub fn number(self) -> u8
+        ensures { result ≡ refusal_number self }
+    {
+        match self {
+            Refusal::WrongLength => 1,
+            Refusal::Illegal => 8,
+        }
+    }
 }
 
 // The commands.

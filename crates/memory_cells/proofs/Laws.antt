@@ -9,7 +9,7 @@ use Prim.Native.Nat.{ℕ, ◌+◌, ◌≤◌, ◌<◌}
 use native.Mathlib.Omega.{arith}
 use lib.Dec.{eqb, lit<}
 use lib.ListN.{length, get_or, replicate}
-use borrow.Author.Tests.{eqb-true, eq-eqb}
+use borrow.Author.Tests.{eqb-true, eq-eqb, ne_eqb}
 use Rattle.base.specs.Parts.{part, patch, Bytes}
 use Rattle.base.proofs.Choice.{by_cond}
 use Rattle.base.proofs.Bytes.{bytes_patch, bytes_part, bytes_replicate}
@@ -52,18 +52,31 @@ flash_done m a command e =
     let z = zero_numbered (eqb (length m) flash_cells) (legal_flash a command) e in
     (eqb-true (length m) 65536 z.0, z.1)
 
-eeprom_done : (m : List ℕ) (p command : ℕ) → eeprom_number m p command ≡ 0 → (length m ≡ 1024) × (legal_eeprom p command ≡ true)
+pub eeprom_done : (m : List ℕ) (p command : ℕ) → eeprom_number m p command ≡ 0 → (length m ≡ 1024) × (legal_eeprom p command ≡ true)
 eeprom_done m p command e =
     let z = zero_numbered (eqb (length m) eeprom_cells) (legal_eeprom p command) e in
     (eqb-true (length m) 1024 z.0, z.1)
 
 -- ---- the three functions: where their cells lie, and the laws of each
 
-flash_fits : (m : List ℕ) (a command : ℕ) → flash_number m a command ≡ 0 → a + cells_of command ≤ length m
+pub flash_fits : (m : List ℕ) (a command : ℕ) → flash_number m a command ≡ 0 → a + cells_of command ≤ length m
 flash_fits m a command e = let d = flash_done m a command e in rw d.0 (flash_within a command d.1).1
 
-eeprom_fits : (m : List ℕ) (p command : ℕ) → eeprom_number m p command ≡ 0 → eeprom_cell p + cells_of command ≤ length m
+pub eeprom_fits : (m : List ℕ) (p command : ℕ) → eeprom_number m p command ≡ 0 → eeprom_cell p + cells_of command ≤ length m
 eeprom_fits m p command e = let d = eeprom_done m p command e in let w = eeprom_within p command d.1 in omega arith
+
+-- a number but 0 is a memory left as it was
+pub written_refused : (m : List ℕ) (a : ℕ) (new : List ℕ) → (flash_number m a 0x02 ≡ 0 → ⊥) → flash_written m a new ≡ m
+unfolding flash_written
+written_refused m a new h = rw (ne_eqb (flash_number m a 0x02) 0 h)
+
+pub erased_refused : (m : List ℕ) (a : ℕ) → (flash_number m a 0x03 ≡ 0 → ⊥) → flash_erased m a ≡ m
+unfolding flash_erased
+erased_refused m a h = rw (ne_eqb (flash_number m a 0x03) 0 h)
+
+pub eeprom_written_refused : (m : List ℕ) (p : ℕ) (new : List ℕ) → (eeprom_number m p 0x02 ≡ 0 → ⊥) → eeprom_written m p new ≡ m
+unfolding eeprom_written
+eeprom_written_refused m p new h = rw (ne_eqb (eeprom_number m p 0x02) 0 h)
 
 -- a done write or erase covers no protected cell
 spared : (m : List ℕ) (a command i : ℕ) → (command ≡ 0x01 → ⊥) → protected i ≡ true → flash_number m a command ≡ 0

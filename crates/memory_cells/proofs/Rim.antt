@@ -2,18 +2,15 @@
 -- `Reads`). Each contract is one equation with a definition, whose laws are in `Laws`; a number but 0 is a memory left as it was.
 -- Assumes nothing.
 use mathlib.Core.Path.{◌≡◌, ◌∙◌, sym, ap, subst}
-use mathlib.Core.List.{List}
-use Prim.Native.Nat.{ℕ}
 use contract.Lifetimes.{Lfts}
 use borrow.Fn.World.{ArgsD, ResD}
 use denote.Triple.Clauses.{AtExit}
 use borrow.Fn.Kinds.{ended_of}
-use borrow.Author.Tests.{ne_eqb}
 use lib.ListN.{length}
-use Rattle.memory_cells.specs.Memory.{flash_number, eeprom_number, flash_written, flash_erased, eeprom_written}
+use Rattle.memory_address.specs.Rule.{number_of}
 use Rattle.memory_cells.specs.Spared.{Spared}
 use Rattle.memory_cells.proofs.Laws.{written_below_rim, written_protected, written_length, erased_below_rim, erased_protected, erased_length}
-use Rattle.memory_cells.proofs.Laws.{eeprom_written_length}
+use Rattle.memory_cells.proofs.Laws.{eeprom_written_length, written_refused, erased_refused, eeprom_written_refused}
 use Rattle.memory_cells.specs.contracts.write_flash.{signature as write-flash-signature}
 use Rattle.memory_cells.proofs.write_flash.Kinds as write-flash-kinds
 use Rattle.memory_cells.proofs.write_flash.Reads as write-flash-reads
@@ -24,25 +21,11 @@ use Rattle.memory_cells.specs.contracts.write_eeprom.{signature as write-eeprom-
 use Rattle.memory_cells.proofs.write_eeprom.Kinds as write-eeprom-kinds
 use Rattle.memory_cells.proofs.write_eeprom.Reads as write-eeprom-reads
 
--- ---- a number but 0
-
-written_refused : (m : List ℕ) (a : ℕ) (new : List ℕ) → (flash_number m a 0x02 ≡ 0 → ⊥) → flash_written m a new ≡ m
-unfolding flash_written
-written_refused m a new h = rw (ne_eqb (flash_number m a 0x02) 0 h)
-
-erased_refused : (m : List ℕ) (a : ℕ) → (flash_number m a 0x03 ≡ 0 → ⊥) → flash_erased m a ≡ m
-unfolding flash_erased
-erased_refused m a h = rw (ne_eqb (flash_number m a 0x03) 0 h)
-
-eeprom_written_refused : (m : List ℕ) (p : ℕ) (new : List ℕ) → (eeprom_number m p 0x02 ≡ 0 → ⊥) → eeprom_written m p new ≡ m
-unfolding eeprom_written
-eeprom_written_refused m p new h = rw (ne_eqb (eeprom_number m p 0x02) 0 h)
-
 -- ---- a write of FLASH
 
 pub write_flash_spares : (κs : Lfts 1) (a : ArgsD write-flash-signature κs) (r : ResD write-flash-signature κs)
     (s : AtExit (ended_of 1 write-flash-kinds.ps write-flash-kinds.r) κs) → write-flash-reads.Post κs a r s
-    → Spared a.0.now s.0.now × ((r ≡ 0 → ⊥) → s.0.now ≡ a.0.now)
+    → Spared a.0.now s.0.now × ((number_of r ≡ 0 → ⊥) → s.0.now ≡ a.0.now)
 write_flash_spares κs a r s p =
     let m = a.0.now in
     let at = a.1.0.0 in
@@ -55,7 +38,7 @@ write_flash_spares κs a r s p =
 
 pub erase_flash_spares : (κs : Lfts 1) (a : ArgsD erase-flash-signature κs) (r : ResD erase-flash-signature κs)
     (s : AtExit (ended_of 1 erase-flash-kinds.ps erase-flash-kinds.r) κs) → erase-flash-reads.Post κs a r s
-    → Spared a.0.now s.0.now × ((r ≡ 0 → ⊥) → s.0.now ≡ a.0.now)
+    → Spared a.0.now s.0.now × ((number_of r ≡ 0 → ⊥) → s.0.now ≡ a.0.now)
 erase_flash_spares κs a r s p =
     let m = a.0.now in
     let at = a.1.0.0 in (
@@ -67,7 +50,7 @@ erase_flash_spares κs a r s p =
 
 pub write_eeprom_spares : (κs : Lfts 1) (a : ArgsD write-eeprom-signature κs) (r : ResD write-eeprom-signature κs)
     (s : AtExit (ended_of 1 write-eeprom-kinds.ps write-eeprom-kinds.r) κs) → write-eeprom-reads.Post κs a r s
-    → (length s.0.now ≡ length a.0.now) × ((r ≡ 0 → ⊥) → s.0.now ≡ a.0.now)
+    → (length s.0.now ≡ length a.0.now) × ((number_of r ≡ 0 → ⊥) → s.0.now ≡ a.0.now)
 write_eeprom_spares κs a r s p =
     let m = a.0.now in
     let place = a.1.0.0 in

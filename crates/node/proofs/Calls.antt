@@ -8,16 +8,13 @@ use Prim.Native.Nat.{ℕ}
 use Rattle.node_rules.specs.declared.Pin.{Pin}
 use Rattle.node_rules.specs.declared.Choices.{Choices}
 use Rattle.node_rules.specs.declared.Node.{Node}
-use Rattle.node_rules.specs.declared.Answer.{Answer}
-use Rattle.node_rules.specs.declared.UartAnswer.{UartAnswer}
-use Rattle.node_rules.specs.declared.Restarted.{Restarted}
+use Rattle.node_rules.specs.Numbered.{Answer, UartAnswer, Restarted}
 use Rattle.node_rules.specs.Record.{plain, fresh_node}
 use Rattle.node_rules.specs.Restart.{restart_step}
 use Rattle.node_rules.specs.Step.{Step, after, can_step}
 use Rattle.node_rules.specs.Uart.{UartStep, uart_after, uart_step}
 use Rattle.node_rules.specs.Runs.{State, end_of, behind_frame, frames_in, behind_byte, bytes_in}
-use Rattle.node_piece_rules.specs.declared.PieceAnswer.{PieceAnswer}
-use Rattle.node_piece_rules.specs.Piece.{piece_after, piece_step}
+use Rattle.node_piece_rules.specs.Piece.{PieceAnswer, piece_after, piece_step}
 use Rattle.node.specs.Calls.{Fresh, Restart, RestartWith, CanFrame, UartByte, UartPiece, call, CanFrames, UartBytes, none, more}
 
 pub fresh_said : {six : List ℕ} {n : Node} → Fresh six n → n ≡ fresh_node six

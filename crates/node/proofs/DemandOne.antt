@@ -12,9 +12,7 @@ use Rattle.frame_rules.specs.Wrapping.{inner_of}
 use Rattle.node_rules.specs.declared.Mode.TheVariants.{Normal}
 use Rattle.node_rules.specs.declared.Choices.{Choices}
 use Rattle.node_rules.specs.declared.Node.{Node}
-use Rattle.node_rules.specs.declared.Answer.{Answer}
-use Rattle.node_rules.specs.declared.UartAnswer.{UartAnswer}
-use Rattle.node_rules.specs.declared.Restarted.{Restarted}
+use Rattle.node_rules.specs.Numbered.{Answer, UartAnswer, Restarted}
 use Rattle.node_rules.specs.Record.{held_of, tidied}
 use Rattle.node_rules.specs.Outcomes.{first_that, can_outcomes}
 use Rattle.node_rules.specs.Step.{Step, after, silent_answer}

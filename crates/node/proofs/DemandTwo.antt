@@ -18,9 +18,7 @@ use Rattle.node_rules.specs.declared.Mode.{Mode}
 use Rattle.node_rules.specs.declared.Mode.TheVariants.{Normal}
 use Rattle.node_rules.specs.declared.Choices.{Choices}
 use Rattle.node_rules.specs.declared.Node.{Node}
-use Rattle.node_rules.specs.declared.Answer.{Answer}
-use Rattle.node_rules.specs.declared.UartAnswer.{UartAnswer}
-use Rattle.node_rules.specs.declared.Restarted.{Restarted}
+use Rattle.node_rules.specs.Numbered.{Answer, UartAnswer, Restarted}
 use Rattle.node_rules.specs.Record.{held_of, plain, tidied}
 use Rattle.node_rules.specs.Requests.{is_programming}
 use Rattle.node_rules.specs.Outcomes.{is_deaf}

@@ -18,9 +18,7 @@ use Rattle.node_rules.specs.declared.Noise.{Noise}
 use Rattle.node_rules.specs.declared.Noise.TheVariants.{KeepFromNext}
 use Rattle.node_rules.specs.declared.Choices.{Choices}
 use Rattle.node_rules.specs.declared.Node.{Node}
-use Rattle.node_rules.specs.declared.Answer.{Answer}
-use Rattle.node_rules.specs.declared.UartAnswer.{UartAnswer}
-use Rattle.node_rules.specs.declared.Restarted.{Restarted}
+use Rattle.node_rules.specs.Numbered.{Answer, UartAnswer, Restarted}
 use Rattle.node_rules.specs.Record.{holding, held_of, tidied, fresh_node}
 use Rattle.node_rules.specs.Outcomes.{is_deaf}
 use Rattle.node_rules.specs.Step.{Step, after, can_step}
@@ -30,8 +28,7 @@ use Rattle.node_rules.specs.Reading.{StaysOf}
 use Rattle.node_rules.proofs.Numbers.{can_never_ten}
 use Rattle.node_rules.proofs.Eleven.{eleven_leaves, eleven_stays}
 use Rattle.node_rules.proofs.Stray.{nothing_lost}
-use Rattle.node_piece_rules.specs.declared.PieceAnswer.{PieceAnswer}
-use Rattle.node_piece_rules.specs.Piece.{PieceStep, node_before, but_tens, taken_in_all, lasts_of, NoneRefused}
+use Rattle.node_piece_rules.specs.Piece.{PieceAnswer, PieceStep, node_before, but_tens, taken_in_all, lasts_of, NoneRefused}
 use Rattle.node_piece_rules.proofs.Cutting.{tens_append}
 use Rattle.node_piece_rules.proofs.Answering.{piece_some}
 use Rattle.node.proofs.Calls.{fresh_said, can_frame_said, uart_byte_said, uart_piece_said, bytes_said}

@@ -13,7 +13,7 @@ use borrow.Author.Tests.{eqb-true, eqb-false}
 use Rattle.node_rules.specs.declared.Pin.{Pin}
 use Rattle.node_rules.specs.declared.Choices.{Choices}
 use Rattle.node_rules.specs.declared.Node.{Node}
-use Rattle.node_rules.specs.declared.Restarted.{Restarted}
+use Rattle.node_rules.specs.Numbered.{Restarted}
 use Rattle.node_rules.specs.Record.{plain, tidied}
 use Rattle.node_rules.specs.Restart.{mode_reached, restarted_in, restart_step}
 use Rattle.node_rules.proofs.Ruling.{sizes_full}

@@ -8,14 +8,11 @@ use borrow.Fn.Kinds.{ended_of}
 use Rattle.node_rules.specs.declared.Pin.{Pin}
 use Rattle.node_rules.specs.declared.Choices.{Choices}
 use Rattle.node_rules.specs.declared.Node.{Node}
-use Rattle.node_rules.specs.declared.Answer.{Answer}
-use Rattle.node_rules.specs.declared.UartAnswer.{UartAnswer}
-use Rattle.node_rules.specs.declared.Restarted.{Restarted}
+use Rattle.node_rules.specs.Numbered.{Answer, UartAnswer, Restarted}
 use Rattle.node_rules.specs.Step.{Step, after}
 use Rattle.node_rules.specs.Uart.{UartStep, uart_after}
 use Rattle.node_rules.specs.Runs.{State, state}
-use Rattle.node_piece_rules.specs.declared.PieceAnswer.{PieceAnswer}
-use Rattle.node_piece_rules.specs.Piece.{PieceStep, piece_after}
+use Rattle.node_piece_rules.specs.Piece.{PieceAnswer, PieceStep, piece_after}
 use Rattle.node_restart.specs.contracts.fresh as fresh
 use Rattle.node_restart.proofs.fresh.Kinds as fresh-kinds
 use Rattle.node_restart.proofs.fresh.Reads as fresh-reads

@@ -25,10 +25,10 @@ fn put(at: Address, d: [u8; 8], flash: &mut [u8], eeprom: &mut [u8])
 {
     match at {
         Address::Flash(f) => {
-            memory_cells::write_flash(flash, f, d);
+            let _ = memory_cells::write_flash(flash, f, d);
         }
         Address::Eeprom(p) => {
-            memory_cells::write_eeprom(eeprom, p, d);
+            let _ = memory_cells::write_eeprom(eeprom, p, d);
         }
     }
 }
@@ -48,7 +48,7 @@ pub fn change(m: Memory, frame: &[u8], flash: &mut [u8], eeprom: &mut [u8])
             put(at, base::eight(frame, 4), flash, eeprom);
         }
         Memory::Erased(at) => {
-            memory_cells::erase_flash(flash, at);
+            let _ = memory_cells::erase_flash(flash, at);
         }
     }
 }

@@ -17,8 +17,7 @@ use Rattle.node_rules.specs.declared.Staged.TheVariants.{Nothing}
 use Rattle.node_rules.specs.declared.Mode.TheVariants.{Programming}
 use Rattle.node_rules.specs.declared.Receiver.{Receiver}
 use Rattle.node_rules.specs.declared.Node.{Node}
-use Rattle.node_rules.specs.declared.Answer.{Answer}
-use Rattle.node_rules.specs.declared.UartAnswer.{UartAnswer}
+use Rattle.node_rules.specs.Numbered.{Answer, UartAnswer}
 use Rattle.node_rules.specs.Record.{receiving, holding, held_of, with_mode, tidied}
 use Rattle.node_rules.specs.Outcomes.{is_deaf, decided}
 use Rattle.node_rules.specs.Step.{Step, after, done, can_step}

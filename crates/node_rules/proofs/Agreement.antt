@@ -20,7 +20,7 @@ use Rattle.frame_rules.specs.Wrapping.{wrapped_of, inner_of, rightly_wrapped}
 use Rattle.frame_rules.proofs.Wrapped.{wrapped_length, wrapped_inner, wrapped_right, right_says}
 use Rattle.node_rules.specs.declared.Pin.TheVariants.{CanAndUart}
 use Rattle.node_rules.specs.declared.Node.{Node}
-use Rattle.node_rules.specs.declared.Effect.{Effect}
+use Rattle.node_rules.specs.Numbered.{Effect}
 use Rattle.node_rules.specs.Record.{holding, may_hold, held_in, held_of, tidy_mode, tidied, Holdable}
 use Rattle.node_rules.specs.Outcomes.{Outcome, outcome, is_deaf, misshapen, is_response, refused, unless, type_outcomes, frame_outcomes, asked_of, decided}
 use Rattle.node_rules.specs.Requests.{found}

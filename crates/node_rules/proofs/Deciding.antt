@@ -14,7 +14,7 @@ use Rattle.node_rules.specs.declared.Mode.{Mode}
 use Rattle.node_rules.specs.declared.Request.{Request}
 use Rattle.node_rules.specs.declared.Request.TheVariants.{EnterProgramming, WaitForRestart, HardwareType, FirmwareType, Description, DeviceId, LeaveProgramming, AddressFrame, DataFrame}
 use Rattle.node_rules.specs.declared.Node.{Node}
-use Rattle.node_rules.specs.declared.Effect.{Effect}
+use Rattle.node_rules.specs.Numbered.{Effect}
 use Rattle.node_rules.specs.Requests.{found, staged_in, doing, asked, asked_by}
 use Rattle.node_rules.specs.Outcomes.{Outcome, refused, first_that, unless, request_outcomes, type_outcomes, frame_outcomes, asked_of}
 use Rattle.node_rules.specs.declared.Kind.{Kind}

@@ -29,7 +29,7 @@ use Rattle.node_rules.specs.declared.Next.{Next}
 use Rattle.node_rules.specs.declared.Next.TheVariants.{Stays, Waits}
 use Rattle.node_rules.specs.declared.Reply.{Reply}
 use Rattle.node_rules.specs.declared.Reply.TheVariants.{Silent}
-use Rattle.node_rules.specs.declared.Effect.{Effect}
+use Rattle.node_rules.specs.Numbered.{Effect}
 use Rattle.node_rules.specs.Record.{holding, held_of, tidied}
 use Rattle.node_rules.specs.Requests.{handled_types, look_in, found, data_in, is_for, is_normal, is_programming, handled_here, asked, asked_by}
 use Rattle.node_rules.specs.Outcomes.{request_outcomes, type_outcomes, frame_outcomes, can_outcomes, asked_of, decided}

@@ -2,6 +2,8 @@ pub mod Tidying
 pub mod TidiedOnce
 pub mod Deciding
 pub mod Numbers
+pub mod InNumbers
+pub mod Tight
 pub mod Spoiling
 pub mod Staying
 pub mod Modes

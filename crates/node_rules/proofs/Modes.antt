@@ -26,7 +26,7 @@ use Rattle.node_rules.specs.declared.Kind.{Kind}
 use Rattle.node_rules.specs.declared.Node.{Node}
 use Rattle.node_rules.specs.declared.Next.{Next}
 use Rattle.node_rules.specs.declared.Next.TheVariants.{Stays, Programs, Waits}
-use Rattle.node_rules.specs.declared.Effect.{Effect}
+use Rattle.node_rules.specs.Numbered.{Effect}
 use Rattle.node_rules.specs.Record.{holding, held_of, tidy_mode, tidied}
 use Rattle.node_rules.specs.Requests.{look_in, found, handled_types, is_programming, handled_here, staged_in, doing, asked, asked_by}
 use Rattle.node_rules.specs.Outcomes.{is_deaf, refused, request_outcomes, type_outcomes, frame_outcomes, can_outcomes, asked_of, decided}

@@ -8,7 +8,7 @@ use native.Mathlib.Omega.{arith}
 use Rattle.memory_address.specs.Places.{full}
 use Rattle.frame_rules.specs.Wrapping.{inner_of}
 use Rattle.node_rules.specs.declared.Node.{Node}
-use Rattle.node_rules.specs.declared.Effect.{Effect}
+use Rattle.node_rules.specs.Numbered.{Effect}
 use Rattle.node_rules.specs.Record.{held_of, tidied}
 use Rattle.node_rules.specs.Outcomes.{first_that, frame_outcomes, can_outcomes, asked_of, decided}
 use Rattle.node_rules.specs.Step.{after, done, can_step, silent_answer}

@@ -28,7 +28,7 @@ use Rattle.node_rules.specs.declared.Node.{Node}
 use Rattle.node_rules.specs.declared.Memory.TheVariants.{Kept, Bootfl}
 use Rattle.node_rules.specs.declared.Next.TheVariants.{Programs, Waits}
 use Rattle.node_rules.specs.declared.Reply.TheVariants.{Silent, Echoed}
-use Rattle.node_rules.specs.declared.Effect.{Effect}
+use Rattle.node_rules.specs.Numbered.{Effect}
 use Rattle.node_rules.specs.Record.{with_mode, legal_staged, tidied}
 use Rattle.node_rules.specs.Requests.{handled_types, found, command_at, does, doing}
 use Rattle.node_rules.specs.Outcomes.{is_nothing, decided}

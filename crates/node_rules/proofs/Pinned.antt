@@ -2,26 +2,23 @@
 -- numbers. The examples (specs/Examples.antt) hold by computing.
 -- Assumes nothing.
 use mathlib.Core.Path.{◌≡◌, ◌∙◌, refl, ap}
-use mathlib.Core.Bool.{Bool, true, false, cond}
-use mathlib.Core.List.{List, [], ◌∷◌, ◌++◌}
+use mathlib.Core.Bool.{Bool, true, false}
+use mathlib.Core.List.{List, [], ◌∷◌}
 use Prim.Native.Nat.{ℕ}
-use lib.ListN.{take, replicate}
-use Rattle.memory_address.specs.declared.FlashAddress.{FlashAddress}
-use Rattle.memory_address.specs.declared.EepromPlace.{EepromPlace}
-use Rattle.memory_address.specs.declared.Address.{Address}
+use lib.ListN.{replicate}
 use Rattle.memory_address.specs.declared.Address.TheVariants.{Flash, Eeprom}
 use Rattle.memory_address.specs.Places.{blank_flash}
 use Rattle.memory_address.specs.Rule.{ruled, legal_flash, legal_eeprom, in_flash, in_eeprom}
 use Rattle.memory_address.proofs.Laws.{flash_ruled, eeprom_ruled}
 use Rattle.memory_address.proofs.BothSides.{read_legal, write_legal, erase_legal}
-use Rattle.memory_address.specs.Ranges.{Exactly, FlashRow, EepromRow, Block}
+use Rattle.memory_address.specs.Ranges.{Exactly}
 use Rattle.frame_rules.specs.Wrapping.{wrapped_of, rightly_wrapped}
 use Rattle.node_rules.specs.declared.Pin.{Pin}
 use Rattle.node_rules.specs.declared.Pin.TheVariants.{CanOnly, CanAndUart}
 use Rattle.node_rules.specs.declared.Staged.{Staged}
 use Rattle.node_rules.specs.declared.Staged.TheVariants.{Nothing, Read, Write, Erase}
 use Rattle.node_rules.specs.declared.Mode.{Mode}
-use Rattle.node_rules.specs.declared.Mode.TheVariants.{Normal, Programming, Error, Waiting}
+use Rattle.node_rules.specs.declared.Mode.TheVariants.{Normal, Programming, Waiting}
 use Rattle.node_rules.specs.declared.Noise.TheVariants.{KeepFromNext}
 use Rattle.node_rules.specs.declared.Node.{Node}
 use Rattle.node_rules.specs.Record.{held_in, held_of, legal_staged, tidied, plain, fresh_node}

@@ -37,7 +37,7 @@ use Rattle.node_rules.specs.declared.Kind.{Kind}
 use Rattle.node_rules.specs.declared.Memory.TheVariants.{Kept}
 use Rattle.node_rules.specs.declared.Next.TheVariants.{Programs}
 use Rattle.node_rules.specs.declared.Reply.TheVariants.{Echoed}
-use Rattle.node_rules.specs.declared.Effect.{Effect}
+use Rattle.node_rules.specs.Numbered.{Effect}
 use Rattle.node_rules.specs.Record.{with_mode, tidied}
 use Rattle.node_rules.specs.Requests.{kind, found, handled_types, is_programming, is_for, command_at, staged_by, does, doing, asked}
 use Rattle.node_rules.specs.Outcomes.{outcome, unless, misshapen, is_response, is_nothing, request_outcomes}

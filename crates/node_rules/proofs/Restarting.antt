@@ -17,7 +17,7 @@ use Rattle.node_rules.specs.declared.Choices.{Choices}
 use Rattle.node_rules.specs.declared.Staged.TheVariants.{Nothing}
 use Rattle.node_rules.specs.declared.Mode.TheVariants.{Normal, Programming, Error}
 use Rattle.node_rules.specs.declared.Node.{Node}
-use Rattle.node_rules.specs.declared.Restarted.{Restarted}
+use Rattle.node_rules.specs.Numbered.{Restarted}
 use Rattle.node_rules.specs.Record.{tidied}
 use Rattle.node_rules.specs.Restart.{restarted_in, restart_step}
 use Rattle.node_rules.proofs.Ruling.{sizes_full}

@@ -18,7 +18,7 @@ use Rattle.node_rules.specs.declared.Mode.{Mode}
 use Rattle.node_rules.specs.declared.Mode.TheVariants.{Normal, Programming, Error, Waiting}
 use Rattle.node_rules.specs.declared.Kind.{Kind}
 use Rattle.node_rules.specs.declared.Node.{Node}
-use Rattle.node_rules.specs.declared.Effect.{Effect}
+use Rattle.node_rules.specs.Numbered.{Effect}
 use Rattle.node_rules.specs.Record.{tidied}
 use Rattle.node_rules.specs.Requests.{found, is_for, handled_here, asked}
 use Rattle.node_rules.specs.Outcomes.{refused, unless, is_deaf, misshapen, is_response, request_outcomes, decided}

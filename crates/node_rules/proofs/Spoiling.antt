@@ -22,7 +22,7 @@ use Rattle.node_rules.specs.declared.Request.TheVariants.{EnterProgramming, Wait
 use Rattle.node_rules.specs.declared.Node.{Node}
 use Rattle.node_rules.specs.declared.Memory.{Memory}
 use Rattle.node_rules.specs.declared.Memory.TheVariants.{Kept, Bootfl, Written, Erased}
-use Rattle.node_rules.specs.declared.Effect.{Effect}
+use Rattle.node_rules.specs.Numbered.{Effect}
 use Rattle.node_rules.specs.Record.{held_of, tidy_mode, tidied}
 use Rattle.node_rules.specs.Requests.{found, data_in, asked, asked_by}
 use Rattle.node_rules.specs.Outcomes.{Outcome, can_outcomes, unless, asked_of, decided}

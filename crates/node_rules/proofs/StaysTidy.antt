@@ -31,10 +31,9 @@ use Rattle.node_rules.specs.declared.Noise.{Noise}
 use Rattle.node_rules.specs.declared.Noise.TheVariants.{KeepFromNext, DropAll}
 use Rattle.node_rules.specs.declared.Choices.{Choices}
 use Rattle.node_rules.specs.declared.Node.{Node}
-use Rattle.node_rules.specs.declared.Restarted.{Restarted}
+use Rattle.node_rules.specs.Numbered.{Restarted, Effect}
 use Rattle.node_rules.specs.declared.Next.{Next}
 use Rattle.node_rules.specs.declared.Next.TheVariants.{Stays, Programs, Waits}
-use Rattle.node_rules.specs.declared.Effect.{Effect}
 use Rattle.node_rules.specs.Record.{holding, held_in, held_of, legal_staged, tidy_mode, tidied, fresh_node, Holdable}
 use Rattle.node_rules.specs.Requests.{found, D, address_in, command_at, staged_by, staged_in, doing, asked, asked_by}
 use Rattle.node_rules.specs.Outcomes.{Outcome, refused, frame_outcomes, can_outcomes, unless, asked_of, decided}

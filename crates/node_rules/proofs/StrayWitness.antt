@@ -13,7 +13,7 @@ use Rattle.node_rules.specs.Record.{held_in, tidied}
 use Rattle.node_rules.specs.Step.{can_step}
 use Rattle.node_rules.specs.Uart.{UartStep, held_after_bad, via_uart, uart_step, silent}
 use Rattle.node_rules.specs.Runs.{State, state, end_of, behind_byte, bytes_in, collected, TensAndElevens}
-use Rattle.node_rules.specs.Examples.{noisy, asking, strayS3}
+use Rattle.node_rules.specs.Examples.{noisy, asking, stray_s3}
 use Rattle.node_rules.proofs.Running.{steps_append}
 use Rattle.node_rules.proofs.Agreement.{wrong_sum_or_stop, skipped}
 use Rattle.node_rules.proofs.Stray.{nothing_lost}
@@ -21,14 +21,14 @@ use Rattle.node_rules.proofs.Stray.{nothing_lost}
 module _ (F E : List ℕ) (fl : length F ≡ 65536) (el : length E ≡ 1024) where
   -- the new way: 10s and 11s, and then what 0x100 gives
   pub stray_obeyed : (before : List UartStep)
-      × (bytes_in strayS3 (state (noisy KeepFromNext []) F E)
+      × (bytes_in stray_s3 (state (noisy KeepFromNext []) F E)
       ≡ before ++ (via_uart (can_step (noisy KeepFromNext []) (asking 0x10 0x00 0x05 0x0A) F E) ∷ []))
       × TensAndElevens F E before
   unfolding held_in wrapped_of rightly_wrapped
   stray_obeyed = nothing_lost (noisy KeepFromNext []) F E fl el refl refl refl refl (0xAA ∷ []) (asking 0x10 0x00 0x05 0x0A) refl ((λ _. refl), tt)
 
   -- the old way: fourteen times 10, 11, and once more 10; the node is as it was, and so are both memories
-  pub stray_lost : bytes_in strayS3 (state (noisy DropAll []) F E)
+  pub stray_lost : bytes_in stray_s3 (state (noisy DropAll []) F E)
       ≡ collected (noisy DropAll []) [] (0xAA ∷ 0xAA ∷ asking 0x10 0x00 0x05 0x0A) F E
       ++ (silent 11 (noisy DropAll []) F E ∷ silent 10 (noisy DropAll []) F E ∷ [])
   unfolding held_in tidied held_after_bad

@@ -22,7 +22,7 @@ use Rattle.node_rules.specs.declared.Node.{Node}
 use Rattle.node_rules.specs.declared.HandledIn.TheVariants.{InNormal, InProgramming}
 use Rattle.node_rules.specs.declared.Addressing.TheVariants.{AsGroup, AsNode, AllZero, OwnNumbers}
 use Rattle.node_rules.specs.declared.Request.TheVariants.{EnterProgramming, HardwareType, LeaveProgramming, DataFrame}
-use Rattle.node_rules.specs.declared.Restarted.{Restarted}
+use Rattle.node_rules.specs.Numbered.{Restarted}
 use Rattle.node_rules.specs.Record.{receiving, plain, tidied}
 use Rattle.node_rules.specs.Requests.{kind, found, handled_types, is_programming}
 use Rattle.node_rules.specs.Step.{Step, can_step}

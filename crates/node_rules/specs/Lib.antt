@@ -1,10 +1,12 @@
 pub mod Record
+pub mod Numbered
 pub mod Requests
 pub mod Outcomes
 pub mod Replies
 pub mod Step
 pub mod Uart
 pub mod Restart
+pub mod InNumbers
 pub mod Runs
 pub mod Others
 pub mod Reading

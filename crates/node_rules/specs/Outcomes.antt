@@ -14,7 +14,7 @@ use Rattle.node_rules.specs.declared.Memory.TheVariants.{Kept}
 use Rattle.node_rules.specs.declared.Next.{Next}
 use Rattle.node_rules.specs.declared.Next.TheVariants.{Stays, Programs}
 use Rattle.node_rules.specs.declared.Reply.TheVariants.{Silent}
-use Rattle.node_rules.specs.declared.Effect.{Effect}
+use Rattle.node_rules.specs.Numbered.{Effect}
 use Rattle.node_rules.specs.Requests.{found, is_for, handled_here, ruled_in, staged_in, asked_by}
 use Rattle.node_rules.specs.declared.Kind.{Kind}
 

@@ -25,7 +25,7 @@ use Rattle.node_rules.specs.declared.Next.{Next}
 use Rattle.node_rules.specs.declared.Next.TheVariants.{Stays, Programs, Waits}
 use Rattle.node_rules.specs.declared.Reply.{Reply}
 use Rattle.node_rules.specs.declared.Reply.TheVariants.{Silent, Entered, Hardware, Firmware, Described, Device, Echoed, Cells}
-use Rattle.node_rules.specs.declared.Effect.{Effect}
+use Rattle.node_rules.specs.Numbered.{Effect}
 
 -- ---- "The handled types stand in one table": "Type" and "For", with the mode in which a type is handled and what it asks
 

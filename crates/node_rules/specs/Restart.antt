@@ -8,7 +8,7 @@ use Rattle.node_rules.specs.declared.Mode.TheVariants.{Normal, Programming, Erro
 use Rattle.node_rules.specs.declared.Choices.{Choices}
 use Rattle.node_rules.specs.declared.Plate.{Plate}
 use Rattle.node_rules.specs.declared.Node.{Node}
-use Rattle.node_rules.specs.declared.Restarted.{Restarted}
+use Rattle.node_rules.specs.Numbered.{Restarted}
 use Rattle.node_rules.specs.Record.{receiving, tidied}
 
 -- "Failed self-test: error mode. Else BOOTFL 0xFF: programming, nothing staged. Else normal"; "At a restart that reaches normal mode,

@@ -9,9 +9,7 @@ use Rattle.node_rules.specs.declared.Noise.{Noise}
 use Rattle.node_rules.specs.declared.Noise.TheVariants.{KeepFromNext, DropAll}
 use Rattle.node_rules.specs.declared.Choices.{Choices}
 use Rattle.node_rules.specs.declared.Node.{Node}
-use Rattle.node_rules.specs.declared.Effect.{Effect}
-use Rattle.node_rules.specs.declared.Answer.{Answer}
-use Rattle.node_rules.specs.declared.UartAnswer.{UartAnswer}
+use Rattle.node_rules.specs.Numbered.{Effect, Answer, UartAnswer}
 use Rattle.node_rules.specs.Record.{holding, held_of, tidied}
 use Rattle.node_rules.specs.Outcomes.{Outcome, outcome, unless, is_deaf, frame_outcomes, asked_of}
 use Rattle.node_rules.specs.Step.{Step, done}

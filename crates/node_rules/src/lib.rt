@@ -2,6 +2,9 @@
 // proofs/ has what follows from them alone.
 #![tactic(auto)]
 
+ghost use Rattle.std.specs.Prelude.{◌≡◌};
+ghost use Rattle.node_rules.specs.InNumbers.{refusal_number};
+
 use memory_address::{Address, FlashAddress, Group, Module};
 
 // The pin: which ports the node listens on.
@@ -138,43 +141,68 @@ pub enum Reply {
     Cells(Address),
 }
 
-// What a frame comes to: its number, the reply, and what becomes of memories and mode.
+// Why a frame or a call is refused: document 01's numbered outcomes but 0, in the order of the numbers.
+#[derive(Clone, Copy, PartialEq, Eq)]
+pub enum Refusal {
+    WrongLength,
+    ClosedPort,
+    TakesNoFrame,
+    Misshapen,
+    IsResponse,
+    NotHandled,
+    NotForNode,
+    IllegalAddress,
+    NothingStaged,
+    Incomplete,
+    BadFrame,
+}
+
+impl Refusal {
+    // Document 01's number.
+    pub fn number(self) -> u8
+        ensures { result ≡ refusal_number self }
+    {
+        match self {
+            Refusal::WrongLength => 1,
+            Refusal::ClosedPort => 2,
+            Refusal::TakesNoFrame => 3,
+            Refusal::Misshapen => 4,
+            Refusal::IsResponse => 5,
+            Refusal::NotHandled => 6,
+            Refusal::NotForNode => 7,
+            Refusal::IllegalAddress => 8,
+            Refusal::NothingStaged => 9,
+            Refusal::Incomplete => 10,
+            Refusal::BadFrame => 11,
+        }
+    }
+}
+
+// What a frame that is not refused comes to: the reply, and what becomes of memories and mode.
 #[derive(Clone, Copy)]
-pub struct Effect {
-    pub number: u8,
+pub struct Deed {
     pub reply: Reply,
     pub memory: Memory,
     pub next: Next,
 }
 
-// How many replies of 12 bytes, and their bytes; 0 behind them.
+// How many replies, and their bytes; 0 behind them. On CAN N is 24, for two replies of 12 bytes; on UART 30, for two of 15 wrapped bytes.
 #[derive(Clone, Copy)]
-pub struct Replies {
+pub struct Replies<const N: usize> {
     pub count: u8,
-    pub bytes: [u8; 24],
+    pub bytes: [u8; N],
 }
 
-// The answer to a CAN frame: the number, how many replies of 12 bytes (0 behind them), and the node.
+// The answer to a frame or a byte: the replies or why it is refused, and the node.
 #[derive(Clone, Copy)]
-pub struct Answer {
-    pub number: u8,
-    pub count: u8,
-    pub replies: [u8; 24],
+pub struct Answer<const N: usize> {
+    pub outcome: Result<Replies<N>, Refusal>,
     pub node: Node,
 }
 
-// The answer to a UART byte: the same, with replies of 15 wrapped bytes.
-#[derive(Clone, Copy)]
-pub struct UartAnswer {
-    pub number: u8,
-    pub count: u8,
-    pub replies: [u8; 30],
-    pub node: Node,
-}
-
-// The answer to a restart.
+// The answer to a restart: whether it was refused, and the node.
 #[derive(Clone, Copy)]
 pub struct Restarted {
-    pub number: u8,
+    pub outcome: Result<(), Refusal>,
     pub node: Node,
 }

@@ -20,8 +20,7 @@ use Rattle.node_rules.specs.declared.Pin.{Pin}
 use Rattle.node_rules.specs.declared.Pin.TheVariants.{CanOnly, CanAndUart}
 use Rattle.node_rules.specs.declared.Receiver.{Receiver}
 use Rattle.node_rules.specs.declared.Node.{Node}
-use Rattle.node_rules.specs.declared.Answer.{Answer}
-use Rattle.node_rules.specs.declared.UartAnswer.{UartAnswer}
+use Rattle.node_rules.specs.Numbered.{Answer, UartAnswer}
 use Rattle.node_rules.specs.Record.{padded, receiving, holding, held_of, tidied, Holdable}
 use Rattle.node_rules.specs.Outcomes.{is_deaf}
 use Rattle.node_rules.specs.Step.{after, done, can_step}

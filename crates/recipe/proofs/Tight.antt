@@ -2,9 +2,9 @@
 -- The contract is the generated `Reads`: nothing is said of a body.
 use mathlib.Core.Path.{◌≡◌, refl, ap, sym, ◌∙◌}
 use mathlib.Core.List.{[], ◌∷◌}
-use Prim.Native.Nat.{ℕ, ◌-◌}
+use Prim.Native.Nat.{ℕ, zero, suc, ◌-◌}
 use lib.ListN.{get_or}
-use Rattle.std.specs.Prelude.{Result, Ok, Err}
+use Rattle.std.specs.Prelude.{Result, Ok, Err, ⊤}
 use contract.Lifetimes.{Lfts}
 use borrow.Fn.World.{ArgsD, ResD}
 use denote.Triple.Clauses.{AtExit}
@@ -15,7 +15,7 @@ use Rattle.recipe.proofs.Fault.number.Reads as number-reads
 use Rattle.recipe.specs.declared.Fault.{Fault}
 use Rattle.recipe.specs.declared.Fault.TheVariants.{NoLeave, UnknownKind, CutShort, OutOfPlace, IllegalAddress, TooManyItems, ShortOutput}
 use Rattle.recipe.specs.declared.Refusal.{Refusal}
-use Rattle.recipe.specs.Translation.{Translated, Frames, Refused, fault_number, in_numbers}
+use Rattle.recipe.specs.Translation.{Translated, Frames, Refused, fault_number, found_number, in_numbers}
 
 -- the fault of a number
 abbrev fault_of : ℕ → Fault
@@ -34,6 +34,25 @@ of_number ShortOutput = refl
 -- two faults with the same number are one
 pub fault_number_once : (f f' : Fault) → fault_number f ≡ fault_number f' → f ≡ f'
 fault_number_once f f' e = sym (of_number f) ∙ ap fault_of e ∙ of_number f'
+
+-- what is found at an item, of its number
+abbrev found_of : ℕ → Result ⊤ Fault
+found_of zero = Ok tt
+found_of (suc n) = Err (fault_of (suc n))
+
+of_found : (r : Result ⊤ Fault) → found_of (found_number r) ≡ r
+of_found (Ok u) = refl
+of_found (Err NoLeave) = refl
+of_found (Err UnknownKind) = refl
+of_found (Err CutShort) = refl
+of_found (Err OutOfPlace) = refl
+of_found (Err IllegalAddress) = refl
+of_found (Err TooManyItems) = refl
+of_found (Err ShortOutput) = refl
+
+-- what is found has one number
+pub found_number_once : (r r' : Result ⊤ Fault) → found_number r ≡ found_number r' → r ≡ r'
+found_number_once r r' e = sym (of_found r) ∙ ap found_of e ∙ of_found r'
 
 -- the answer of its numbers
 abbrev answer_of : Translated → Result ℕ Refusal

@@ -8,7 +8,7 @@ ghost use Rattle.recipe.specs.Translation.{fault_number};
 use memory_address::{Group, Module};
 
 // The numbers that a recipe is for.
-#[derive(Clone, Copy)]
+#[derive(Clone, Copy, PartialEq, Eq)]
 pub struct Numbers {
     pub module: Module,
     pub group: Group,

@@ -8,26 +8,14 @@ use memory_address::{EepromPlace, FlashAddress};
 pub fn is_known(kind: u8) -> bool
     ensures { result ≡ known kind }
 {
-    match kind {
-        0x01 => true,
-        0x02 => true,
-        0x03 => true,
-        0x0F => true,
-        _ => false,
-    }
+    matches!(kind, 0x01 | 0x02 | 0x03 | 0x0F)
 }
 
 // Whether an item is out of place: anything after Leave, Open behind the first item, or anything else as the first item.
 pub fn out_of_place(kind: u8, number: usize, ended: bool) -> bool
     ensures { result ≡ out_of_place kind number ended }
 {
-    if ended {
-        return true;
-    }
-    if kind == 0x01 {
-        return number != 1;
-    }
-    number == 1
+    ended || (kind == 0x01) != (number == 1)
 }
 
 // Whether the address of the item at a place is illegal: a Block's as erase, a Row's as EEPROM write.

@@ -6,6 +6,9 @@ mod kind;
 
 ghost use Rattle.std.specs.Prelude.{◌≡◌, ◌+◌, ◌≤◌, drop};
 ghost use Rattle.recipe.specs.Faults.{body_length, fault_at};
+ghost use Rattle.recipe.specs.Translation.{found_number};
+
+use recipe::Fault;
 
 // How many bytes an item of a kind takes: its kind and its body.
 pub fn size_of_kind(kind: u8) -> usize
@@ -19,28 +22,28 @@ pub fn size_of_kind(kind: u8) -> usize
     }
 }
 
-// The number of the first refusal that holds of the item at a place, or 0. Behind the end there is no kind: that is an unknown one.
-pub fn fault_at(input: &[u8], place: usize, number: usize, ended: bool) -> u8
-    ensures { result ≡ fault_at (drop place input.now) number ended }
+// The first refusal that holds of the item at a place. Behind the end there is no kind: that is an unknown one.
+pub fn fault_at(input: &[u8], place: usize, number: usize, ended: bool) -> Result<(), Fault>
+    ensures { found_number result ≡ fault_at (drop place input.now) number ended }
 {
     if number == 2049 {
-        return 25;
+        return Err(Fault::TooManyItems);
     }
     if input.len() <= place {
-        return 21;
+        return Err(Fault::UnknownKind);
     }
     let kind = input[place];
     if !kind::is_known(kind) {
-        return 21;
+        return Err(Fault::UnknownKind);
     }
     if kind::out_of_place(kind, number, ended) {
-        return 23;
+        return Err(Fault::OutOfPlace);
     }
     if input.len() - place < size_of_kind(kind) {
-        return 22;
+        return Err(Fault::CutShort);
     }
     if kind::is_illegal(kind, recipe_address::address_of(input, place)) {
-        return 24;
+        return Err(Fault::IllegalAddress);
     }
-    0
+    Ok(())
 }

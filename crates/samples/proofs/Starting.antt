@@ -16,7 +16,7 @@ use Rattle.memory_sum.proofs.Laws.{stored_by_place, worked_out}
 use Rattle.memory_start.proofs.Laws.{flag_says, starts_by_flag}
 use Rattle.node_rules.specs.declared.Pin.TheVariants.{CanOnly}
 use Rattle.node_rules.specs.declared.Mode.TheVariants.{Normal, Waiting}
-use Rattle.node_rules.specs.declared.Restarted.{Restarted}
+use Rattle.node_rules.specs.Numbered.{Restarted}
 use Rattle.node_rules.specs.Record.{plain}
 use Rattle.node_rules.specs.Step.{Step}
 use Rattle.node_rules.specs.Examples.{node050_a, flash_with}

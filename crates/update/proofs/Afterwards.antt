@@ -11,7 +11,7 @@ use Rattle.memory_start.specs.Plain.{Starts}
 use Rattle.node_rules.specs.declared.Mode.TheVariants.{Normal}
 use Rattle.node_rules.specs.declared.Node.{Node}
 use Rattle.node_rules.specs.declared.Choices.{Choices}
-use Rattle.node_rules.specs.declared.Restarted.{Restarted}
+use Rattle.node_rules.specs.Numbered.{Restarted}
 use Rattle.node_rules.specs.Runs.{State}
 use Rattle.node.specs.Calls.{RestartWith}
 use Rattle.node.proofs.Calls.{restart_with_said}

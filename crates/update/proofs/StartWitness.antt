@@ -15,7 +15,7 @@ use Rattle.memory_address.specs.Rule.{ruled}
 use Rattle.memory_start.specs.Plain.{SumsAgree, Starts}
 use Rattle.node_rules.specs.declared.Mode.TheVariants.{Normal}
 use Rattle.node_rules.specs.declared.Choices.{Choices}
-use Rattle.node_rules.specs.declared.Restarted.{Restarted}
+use Rattle.node_rules.specs.Numbered.{Restarted}
 use Rattle.node_rules.specs.Record.{tidied}
 use Rattle.node_rules.specs.Runs.{State}
 use Rattle.node.specs.Calls.{RestartWith}

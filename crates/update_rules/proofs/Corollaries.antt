@@ -19,7 +19,7 @@ use Rattle.node_rules.specs.declared.Mode.TheVariants.{Normal, Waiting}
 use Rattle.node_rules.specs.declared.Node.{Node}
 use Rattle.node_rules.specs.declared.Choices.{Choices}
 use Rattle.node_rules.specs.Record.{with_mode, tidied}
-use Rattle.node_rules.specs.declared.Restarted.{Restarted}
+use Rattle.node_rules.specs.Numbered.{Restarted}
 use Rattle.node_rules.specs.Restart.{restart_step}
 use Rattle.node_rules.specs.Runs.{State}
 use Rattle.node_rules.proofs.Restarting.{restart_normal}

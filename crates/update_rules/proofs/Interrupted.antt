@@ -10,7 +10,7 @@ use native.Mathlib.Omega.{arith}
 use lib.ListN.{length, get_or, take, drop, take-append-drop}
 use lib.Seq.{length-take-le}
 use Rattle.node_rules.specs.declared.Choices.{Choices}
-use Rattle.node_rules.specs.declared.Restarted.{Restarted}
+use Rattle.node_rules.specs.Numbered.{Restarted}
 use Rattle.node_rules.specs.declared.Staged.TheVariants.{Nothing}
 use Rattle.node_rules.specs.declared.Mode.TheVariants.{Waiting}
 use Rattle.node_rules.specs.declared.Node.{Node}

@@ -18,7 +18,7 @@ use Rattle.frame_rules.specs.Frame.{type_of}
 use Rattle.frame_rules.specs.Wrapping.{wrapped_of}
 use Rattle.frame_rules.proofs.Wrapped.{wrapped_length}
 use Rattle.node_rules.specs.declared.Node.{Node}
-use Rattle.node_rules.specs.declared.Answer.{Answer}
+use Rattle.node_rules.specs.Numbered.{Answer}
 use Rattle.node_rules.specs.declared.Reply.{Reply}
 use Rattle.node_rules.specs.declared.Reply.TheVariants.{Silent, Entered, Hardware, Firmware, Described, Device, Echoed, Cells}
 use Rattle.node_rules.specs.declared.Next.{Next}

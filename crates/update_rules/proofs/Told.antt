@@ -3,7 +3,7 @@
 -- Assumes nothing.
 use mathlib.Core.Path.{◌≡◌, refl}
 use lib.ListN.{get_or, take, drop}
-use Rattle.node_rules.specs.declared.Answer.{Answer}
+use Rattle.node_rules.specs.Numbered.{Answer}
 use Rattle.update_rules.specs.Delivery.{told}
 
 -- byte 0 is the number

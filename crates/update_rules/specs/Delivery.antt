@@ -1,7 +1,7 @@
 -- A delivery: frames handed to a node one by one, each as a CAN frame, with nothing else in between.
 use Rattle.std.specs.Prelude.{ℕ, ◌≡◌, List, ◌∷◌, ◌++◌, map, take}
 use Rattle.node_rules.specs.declared.Node.{Node}
-use Rattle.node_rules.specs.declared.Answer.{Answer}
+use Rattle.node_rules.specs.Numbered.{Answer}
 use Rattle.node_rules.specs.Step.{Step}
 use Rattle.node_rules.specs.Runs.{State, state, end_of, behind_frame, frames_in}
 

@@ -4,7 +4,7 @@ use Rattle.frame_rules.specs.Wrapping.{wrapped_of}
 use Rattle.memory_address.specs.Places.{flash_cells, eeprom_cells}
 use Rattle.node_rules.specs.declared.Pin.TheVariants.{CanAndUart}
 use Rattle.node_rules.specs.declared.Node.{Node}
-use Rattle.node_rules.specs.declared.UartAnswer.{UartAnswer}
+use Rattle.node_rules.specs.Numbered.{UartAnswer}
 use Rattle.node_rules.specs.Record.{held_of}
 use Rattle.node_rules.specs.Uart.{UartStep}
 use Rattle.node_rules.specs.Runs.{State, state, end_of, behind_byte, bytes_in}
