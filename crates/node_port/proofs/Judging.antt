@@ -44,3 +44,19 @@ module _ (c : Choices) (w frame room : List ℕ) (l : length w ≡ 15) (k : leng
       go : (t : Bool) → rightly_wrapped w ≡ t → Err held ≡ judged c w
       go true h = absurd (no_zero x (rw (is, h) at gives))
       go false h = rw (h, q) refl
+
+-- and what is judged says which it was
+module _ (c : Choices) (w : List ℕ) where
+  pub judged_right : (frame : List ℕ) → judged c w ≡ Ok frame → (rightly_wrapped w ≡ true) × (frame ≡ inner_of w)
+  judged_right frame e = go (rightly_wrapped w) refl
+    where
+      go : (t : Bool) → rightly_wrapped w ≡ t → (rightly_wrapped w ≡ true) × (frame ≡ inner_of w)
+      go true h = let q : Ok (inner_of w) ≡ Ok frame = rw h at e in (h, cc)
+      go false h = let q : Err (receiving (held_after_bad c w)) ≡ Ok frame = rw h at e in cc
+
+  pub judged_wrong : (r : Receiver) → judged c w ≡ Err r → (rightly_wrapped w ≡ false) × (r ≡ receiving (held_after_bad c w))
+  judged_wrong r e = go (rightly_wrapped w) refl
+    where
+      go : (t : Bool) → rightly_wrapped w ≡ t → (rightly_wrapped w ≡ false) × (r ≡ receiving (held_after_bad c w))
+      go true h = let q : Ok (inner_of w) ≡ Err r = rw h at e in cc
+      go false h = let q : Err (receiving (held_after_bad c w)) ≡ Err r = rw h at e in (h, cc)
