@@ -1,7 +1,7 @@
 // What every crate may use: readers and a writer that never run past the end, and the laws of parts, patches, choices and stores.
 #![tactic(auto)]
 
-ghost use Rattle.std.specs.Prelude.{◌≡◌, get_or};
+ghost use Rattle.std.specs.Prelude.{◌≡◌, get_or, drop};
 ghost use Rattle.base.specs.Parts.{listed};
 ghost use Rattle.base.specs.Internal.Putting.{put_at};
 
@@ -9,53 +9,33 @@ ghost use Rattle.base.specs.Internal.Putting.{put_at};
 pub fn byte_at(s: &[u8], i: usize) -> u8
     ensures { result ≡ get_or s.now i 0 }
 {
-    if i < s.len() {
-        return s[i];
-    }
-    0
+    s.get(i).copied().unwrap_or(0)
+}
+
+// What lies from i on: nothing behind the end.
+fn rest_from(s: &[u8], i: usize) -> &[u8]
+    ensures { result.now ≡ drop i s.now }
+{
+    s.get(i..).unwrap_or(&[])
 }
 
 // Eight bytes from i on, 0 behind the end.
 pub fn eight(s: &[u8], i: usize) -> [u8; 8]
     ensures { result ≡ listed s.now i 8 }
 {
-    if 8 <= s.len() {
-        if i <= s.len() - 8 {
-            return [
-                s[i],
-                s[i + 1],
-                s[i + 2],
-                s[i + 3],
-                s[i + 4],
-                s[i + 5],
-                s[i + 6],
-                s[i + 7],
-            ];
-        }
+    let rest = rest_from(s, i);
+    match rest.first_chunk() {
+        Some(cells) => *cells,
+        None => std::array::from_fn(|k| byte_at(rest, k)),
     }
-    if s.len() <= i {
-        return [0; 8];
-    }
-    [
-        s[i],
-        byte_at(s, i + 1),
-        byte_at(s, i + 2),
-        byte_at(s, i + 3),
-        byte_at(s, i + 4),
-        byte_at(s, i + 5),
-        byte_at(s, i + 6),
-        byte_at(s, i + 7),
-    ]
 }
 
 // Puts bytes into an output at a place; where they don't fit all of the output stays as it is.
+#[tactic(auto, unfolding(crate::specs::Internal::Putting::put_at, crate::specs::Parts::patch))]
 pub fn put(output: &mut [u8], at: usize, new: &[u8])
     ensures { output.new ≡ put_at output.old at new.now }
 {
-    if new.len() <= output.len() {
-        if at <= output.len() - new.len() {
-            let end = at + new.len();
-            output[at..end].copy_from_slice(new);
-        }
+    if new.len() <= output.len() && at <= output.len() - new.len() {
+        output[at..at + new.len()].copy_from_slice(new);
     }
 }
