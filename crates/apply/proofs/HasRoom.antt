@@ -15,11 +15,9 @@ use denote.Triple.Clauses.{AtExit}
 use borrow.Fn.Kinds.{ended_of}
 use Rattle.base.proofs.Choice.{by_cond}
 use Rattle.node_rules.specs.declared.Node.{Node}
-use Rattle.recipe.specs.declared.Translated.{Translated}
-use Rattle.recipe.specs.declared.Translated.TheVariants.{Frames, Refused}
 use Rattle.recipe.specs.Frames.{frame_count}
 use Rattle.recipe.specs.Reading.{Stop, at_end, fault, read_from, reading, recipe_of}
-use Rattle.recipe.specs.Translation.{answer_at, unless_short, checked, translated}
+use Rattle.recipe.specs.Translation.{Translated, Frames, Refused, answer_at, unless_short, checked, translated}
 use Rattle.update_deliver.specs.Delivering.{Left, room_for, deliver_by, deliver_step}
 use Rattle.update_deliver.proofs.Outcome.{room_within, accepted_fits}
 use Rattle.update_deliver.specs.contracts.deliver.{signature}

@@ -11,7 +11,6 @@ ghost use Rattle.node_rules.specs.declared.Pin.TheVariants.{CanOnly};
 ghost use Rattle.node_rules.specs.Record.{plain, fresh_node};
 ghost use Rattle.node_rules.specs.Restart.{restart_step};
 
-use input::Input;
 use node_rules::{Node, Pin};
 use recipe::Translated;
 use std::process::ExitCode;
@@ -72,9 +71,8 @@ fn apply_first(rt: &HostRuntime, bytes: &[u8; ASKED], n: usize) -> ExitCode {
 
 fn main(rt: HostRuntime) -> ExitCode {
     let mut bytes = [0u8; ASKED];
-    let input = input::read_recipe(&rt, &mut bytes);
-    match input {
-        Input::Bytes(n) => apply_first(&rt, &bytes, n),
-        Input::Unread => ExitCode::SUCCESS,
+    match input::read_recipe(&rt, &mut bytes) {
+        Some(n) => apply_first(&rt, &bytes, n),
+        None => ExitCode::SUCCESS,
     }
 }

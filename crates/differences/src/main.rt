@@ -9,7 +9,6 @@ mod output;
 
 ghost use Rattle.std.specs.Prelude.{◌≤◌, length};
 
-use input::Input;
 use std::process::ExitCode;
 
 // The longest recipe, in bytes: Open, 2,046 Blocks of 68 bytes and Leave.
@@ -47,10 +46,9 @@ fn shorten_recipe(rt: &HostRuntime, recipe: &[u8]) -> ExitCode
     requires { length recipe.now ≤ 139132 }
 {
     let mut cells = [0u8; CELLS];
-    let input = input::read_argument(rt, 2, &mut cells);
-    match input {
-        Input::Bytes(n) => shorten_by(rt, recipe, &cells, n),
-        Input::Unread => ExitCode::SUCCESS,
+    match program_io::read_argument(rt, 2, &mut cells) {
+        Some(n) => shorten_by(rt, recipe, &cells, n),
+        None => ExitCode::SUCCESS,
     }
 }
 
@@ -72,10 +70,9 @@ fn shorten_asked(rt: &HostRuntime, bytes: &[u8; ASKED], n: usize) -> ExitCode {
 // Makes the recipe shorter that the first argument names.
 fn shorten_file(rt: &HostRuntime) -> ExitCode {
     let mut bytes = [0u8; ASKED];
-    let input = input::read_argument(rt, 1, &mut bytes);
-    match input {
-        Input::Bytes(n) => shorten_asked(rt, &bytes, n),
-        Input::Unread => ExitCode::SUCCESS,
+    match program_io::read_argument(rt, 1, &mut bytes) {
+        Some(n) => shorten_asked(rt, &bytes, n),
+        None => ExitCode::SUCCESS,
     }
 }
 

@@ -8,14 +8,15 @@ use recipe::Numbers;
 pub fn address_frame(numbers: Numbers, command: u8, a: u32) -> [u8; 12]
     ensures { result ≡ address_frame numbers.module.0 numbers.group.0 command a }
 {
+    let [_, high, middle, low] = a.to_be_bytes();
     [
         0x03,
         0x00,
         numbers.module.0,
         numbers.group.0,
-        (a / 65536 % 256) as u8,
-        (a / 256 % 256) as u8,
-        (a % 256) as u8,
+        high,
+        middle,
+        low,
         0xFF,
         0xFF,
         command,
