@@ -22,20 +22,12 @@ pub fn type_of(frame: &[u8]) -> u16
 pub fn is_deaf(m: Mode) -> bool
     ensures { result ≡ is_deaf m }
 {
-    match m {
-        Mode::Normal(_) => false,
-        Mode::Programming(_) => false,
-        Mode::Error => true,
-        Mode::Waiting => true,
-    }
+    matches!(m, Mode::Error | Mode::Waiting)
 }
 
 // Outcome 1 is where this fails: whether both memories have their full size.
 pub fn full(flash: &[u8], eeprom: &[u8]) -> bool
     ensures { result ≡ full flash.now eeprom.now }
 {
-    if flash.len() == FLASH_CELLS {
-        return eeprom.len() == EEPROM_CELLS;
-    }
-    false
+    flash.len() == FLASH_CELLS && eeprom.len() == EEPROM_CELLS
 }

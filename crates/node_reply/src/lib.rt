@@ -16,32 +16,22 @@ use node_rules::{Mode, Node, Plate, Replies, Reply};
 fn has_started(m: Mode) -> bool
     ensures { result ≡ has_started m }
 {
-    match m {
-        Mode::Normal(started) => started,
-        Mode::Programming(_) => false,
-        Mode::Error => false,
-        Mode::Waiting => false,
-    }
+    matches!(m, Mode::Normal(true))
 }
 
 // The reply to 0x105 and 0x106, of type 0x1F1 where 0x106 finds firmware not started.
-fn firmware(n: Node, t: u16, flash: &[u8]) -> Replies
+fn firmware(n: Node, t: u16, flash: &[u8]) -> Replies<24>
     requires { t < 4096 }
     ensures { result ≡ one_reply (firmware_reply n t flash.now) }
 {
-    let mode = n.mode;
-    let plate = n.plate;
-    if t == 0x106 {
-        if has_started(mode) {
-            return making::one(plate, t, reading::firmware_type(flash));
-        }
-        return making::one(plate, 0x1F1, reading::firmware_error(flash));
+    if t == 0x106 && !has_started(n.mode) {
+        return making::one(n.plate, 0x1F1, reading::firmware_error(flash));
     }
-    making::one(plate, t, reading::firmware_type(flash))
+    making::one(n.plate, t, reading::firmware_type(flash))
 }
 
 // The two frames of a description.
-fn describe(p: Plate, t: u16, eeprom: &[u8]) -> Replies
+fn describe(p: Plate, t: u16, eeprom: &[u8]) -> Replies<24>
     requires { t < 4096 }
     ensures { result ≡ two_replies (reply_of p t (description_data 0 eeprom.now))
         (reply_of p t (description_data 8 eeprom.now)) }
@@ -54,11 +44,7 @@ fn describe(p: Plate, t: u16, eeprom: &[u8]) -> Replies
 fn cell_of(place: EepromPlace) -> usize
     ensures { result ≡ eeprom_cell place.0 }
 {
-    let number = place.0;
-    if number < EEPROM_FIRST {
-        return 0;
-    }
-    (number - EEPROM_FIRST) as usize
+    place.0.saturating_sub(EEPROM_FIRST) as usize
 }
 
 // The eight cells at an address, 0 behind the end of the memory.
@@ -72,15 +58,14 @@ fn cells_at(at: Address, flash: &[u8], eeprom: &[u8]) -> [u8; 8]
 }
 
 // One reply to this frame, with its type and these data.
-fn reply_to(p: Plate, frame: &[u8], d: [u8; 8]) -> Replies
+fn reply_to(p: Plate, frame: &[u8], d: [u8; 8]) -> Replies<24>
     ensures { result ≡ one_reply (reply_of p (type_of frame.now) d) }
 {
-    let t = node_frame::type_of(frame);
-    making::one(p, t, d)
+    making::one(p, node_frame::type_of(frame), d)
 }
 
 // The replies of an effect to this frame, over the memories as it left them.
-pub fn replies(reply: Reply, n: Node, frame: &[u8], flash: &[u8], eeprom: &[u8]) -> Replies
+pub fn replies(reply: Reply, n: Node, frame: &[u8], flash: &[u8], eeprom: &[u8]) -> Replies<24>
     ensures { result ≡ replying reply n frame.now flash.now eeprom.now }
 {
     let plate = n.plate;
