@@ -25,7 +25,7 @@ pub fn is_response(frame: &[u8]) -> bool
 fn are_own(p: Plate, m: Module, g: Group) -> bool
     ensures { result ≡ are_own p m g }
 {
-    m.0 == p.own.0 && g.0 == p.group.0
+    m == p.own && g == p.group
 }
 
 // D2 is 0x00 and D3 is 0x00 or the own group.
