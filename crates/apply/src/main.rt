@@ -11,9 +11,7 @@ ghost use Rattle.node_rules.specs.declared.Pin.TheVariants.{CanOnly};
 ghost use Rattle.node_rules.specs.Record.{plain, fresh_node};
 ghost use Rattle.node_rules.specs.Restart.{restart_step};
 
-use input::Input;
 use node_rules::{Node, Pin};
-use recipe::Translated;
 use std::process::ExitCode;
 
 // The longest recipe that is applied, in bytes.
@@ -55,10 +53,9 @@ fn apply(rt: &HostRuntime, recipe: &[u8]) -> ExitCode
         &mut frames,
         &mut answers,
     );
-    let translated = delivered.translated;
-    match translated {
-        Translated::Refused { number, place } => output::print_refusal(rt, number, place),
-        Translated::Frames(count) => output::print_answers(rt, &answers, count),
+    match delivered.translated {
+        Ok(count) => output::print_answers(rt, &answers, count),
+        Err(refusal) => output::print_refusal(rt, refusal),
     }
 }
 
@@ -72,9 +69,8 @@ fn apply_first(rt: &HostRuntime, bytes: &[u8; ASKED], n: usize) -> ExitCode {
 
 fn main(rt: HostRuntime) -> ExitCode {
     let mut bytes = [0u8; ASKED];
-    let input = input::read_recipe(&rt, &mut bytes);
-    match input {
-        Input::Bytes(n) => apply_first(&rt, &bytes, n),
-        Input::Unread => ExitCode::SUCCESS,
+    match input::read_recipe(&rt, &mut bytes) {
+        Some(n) => apply_first(&rt, &bytes, n),
+        None => ExitCode::SUCCESS,
     }
 }

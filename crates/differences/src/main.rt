@@ -9,8 +9,6 @@ mod output;
 
 ghost use Rattle.std.specs.Prelude.{◌≤◌, length};
 
-use differs_rules::Differences;
-use input::Input;
 use std::process::ExitCode;
 
 // The longest recipe, in bytes: Open, 2,046 Blocks of 68 bytes and Leave.
@@ -30,20 +28,10 @@ fn shorten(rt: &HostRuntime, recipe: &[u8], image: &[u8]) -> ExitCode
     requires { length recipe.now ≤ 139132 }
 {
     let mut shorter = [0u8; ROOM];
-    let differences = differs_write::differences(recipe, image, &mut shorter);
-    match differences {
-        Differences::Refused { number, place } => output::refuse(rt, number, place),
-        Differences::Kept { erases, size } => {
-            output::write_recipe(rt, &shorter[..size], erases, recipe.len())
-        }
+    match differs_write::differences(recipe, image, &mut shorter) {
+        Ok(kept) => output::write_recipe(rt, &shorter[..kept.size], kept.erases, recipe.len()),
+        Err(refusal) => output::refuse(rt, refusal),
     }
-}
-
-// The same of the first n cells.
-fn shorten_by(rt: &HostRuntime, recipe: &[u8], cells: &[u8; CELLS], n: usize) -> ExitCode
-    requires { length recipe.now ≤ 139132 }
-{
-    shorten(rt, recipe, input::first(cells, n))
 }
 
 // Makes the recipe shorter by the image that the second argument names.
@@ -51,35 +39,19 @@ fn shorten_recipe(rt: &HostRuntime, recipe: &[u8]) -> ExitCode
     requires { length recipe.now ≤ 139132 }
 {
     let mut cells = [0u8; CELLS];
-    let input = input::read_argument(rt, 2, &mut cells);
-    match input {
-        Input::Bytes(n) => shorten_by(rt, recipe, &cells, n),
-        Input::Unread => ExitCode::SUCCESS,
+    match program_io::read_argument(rt, 2, &mut cells) {
+        Some(n) => shorten(rt, recipe, &cells[..n]),
+        None => ExitCode::SUCCESS,
     }
 }
 
-// Makes the recipe of the first n bytes shorter, or says that the file is too long.
-fn shorten_first(rt: &HostRuntime, bytes: &[u8], n: usize) -> ExitCode
-    requires { 139133 ≤ length bytes.now }
-{
-    if n > MOST {
-        return output::refuse_long(rt);
-    }
-    shorten_recipe(rt, &bytes[..n])
-}
-
-// The same of all that was asked for.
-fn shorten_asked(rt: &HostRuntime, bytes: &[u8; ASKED], n: usize) -> ExitCode {
-    shorten_first(rt, bytes, n)
-}
-
-// Makes the recipe shorter that the first argument names.
+// Makes the recipe shorter that the first argument names, or says that the file is too long.
 fn shorten_file(rt: &HostRuntime) -> ExitCode {
     let mut bytes = [0u8; ASKED];
-    let input = input::read_argument(rt, 1, &mut bytes);
-    match input {
-        Input::Bytes(n) => shorten_asked(rt, &bytes, n),
-        Input::Unread => ExitCode::SUCCESS,
+    match program_io::read_argument(rt, 1, &mut bytes) {
+        Some(n) if n > MOST => output::refuse_long(rt),
+        Some(n) => shorten_recipe(rt, &bytes[..n]),
+        None => ExitCode::SUCCESS,
     }
 }
 

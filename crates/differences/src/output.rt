@@ -1,96 +1,66 @@
 // What is written: the shorter recipe, on standard output or into the file that the third argument names, and on standard error how many
 // erases it is; or why there is none, on standard error. What is written for main answers the status that the program ends with.
-ghost use Rattle.std.specs.Prelude.{◌≡◌, ◌⊎◌, ◌≤◌, length};
+ghost use Rattle.std.specs.Prelude.{◌≢◌, ◌≤◌, length};
+ghost use Rattle.recipe.specs.Translation as translation;
+ghost use Rattle.differs_rules.specs.Differences.{fault_number};
 
+use differs_rules::{Fault, Refusal};
 use std::fs::File;
-use std::io::{Eprint, Write};
+use std::io::Write;
 use std::process::ExitCode;
 
-// Writes a part of a sentence. Where it can't be written there is nobody left to tell.
-fn tell(rt: &HostRuntime, words: &[u8]) {
-    program_io::tell(rt, words);
-}
-
-// Writes a number in decimal.
-fn tell_number(rt: &HostRuntime, n: usize) {
-    let _ = rt.eprint(n);
-}
-
-// Names a file, as the argument does.
+// Names a file, as the argument does. What can't be written on standard error, here and below, there is nobody left to tell.
 fn tell_file(rt: &HostRuntime, i: usize) {
     let mut name = [0u8; 4096];
     let n = program_io::arg(rt, i, &mut name).unwrap_or(0);
     if base::byte_at(&name, 0) == b'-' {
-        return tell(rt, b"standard input");
+        return program_io::tell(rt, b"standard input");
     }
-    tell(rt, &name[..n]);
+    program_io::tell(rt, &name[..n]);
 }
 
-// What is wrong with the recipe that is refused with this number.
-fn tell_why(rt: &HostRuntime, number: u8)
-    requires { (20 ≤ number) × (number ≤ 25) }
+// What is wrong with a recipe that has this fault. The output is never too short.
+fn why(fault: recipe::Fault) -> &'static str
+    requires { translation.fault_number fault ≢ 26 }
 {
-    match number {
-        20 => tell(rt, b"the file ends here, and no Leave came"),
-        21 => tell(rt, b"the byte is no kind of item"),
-        22 => tell(rt, b"the file ends within the item that starts here"),
-        23 => tell(
-            rt,
-            b"the item is out of place: Open is first and once, Leave last and once",
-        ),
-        24 => tell(rt, b"the item's address is illegal"),
-        _ => tell(
-            rt,
-            b"item 2,049 starts here, and a recipe has at most 2,048",
-        ),
+    match fault {
+        recipe::Fault::NoLeave => "the file ends here, and no Leave came",
+        recipe::Fault::UnknownKind => "the byte is no kind of item",
+        recipe::Fault::CutShort => "the file ends within the item that starts here",
+        recipe::Fault::OutOfPlace => {
+            "the item is out of place: Open is first and once, Leave last and once"
+        }
+        recipe::Fault::IllegalAddress => "the item's address is illegal",
+        recipe::Fault::TooManyItems => "item 2,049 starts here, and a recipe has at most 2,048",
+        recipe::Fault::ShortOutput => unreachable!(),
     }
 }
 
-// Says where in the recipe the refusal is, and why.
-fn tell_recipe(rt: &HostRuntime, number: u8, place: usize)
-    requires { (20 ≤ number) × (number ≤ 25) }
+// Says why there is no recipe: the refusal's number and place on the first line, then a sentence, of the image where it is no image of
+// FLASH, else of the recipe, and where in it.
+pub fn refuse(rt: &HostRuntime, refusal: Refusal) -> ExitCode
+    requires { fault_number refusal.fault ≢ 26 }
 {
-    tell_file(rt, 1);
-    tell(rt, b", byte ");
-    tell_number(rt, place);
-    tell(rt, b": ");
-    tell_why(rt, number);
-    tell(rt, b"\n");
-}
-
-// Says what is wrong with the image.
-fn tell_image(rt: &HostRuntime) {
-    tell_file(rt, 2);
-    tell(rt, b": other than 65,536 bytes, so no image of FLASH\n");
-}
-
-// The sentence of a refusal: of the image with 36, else of the recipe.
-fn tell_sentence(rt: &HostRuntime, number: u8, place: usize)
-    requires { ((20 ≤ number) × (number ≤ 25)) ⊎ (number ≡ 36) }
-{
-    if number == 36 {
-        return tell_image(rt);
+    let place = refusal.place;
+    let _ = eprintln!(rt; "{} {place}", refusal.fault.number());
+    match refusal.fault {
+        Fault::OtherLength => {
+            tell_file(rt, 2);
+            let _ = eprintln!(rt; ": other than 65,536 bytes, so no image of FLASH");
+        }
+        Fault::Recipe(fault) => {
+            tell_file(rt, 1);
+            let _ = eprintln!(rt; ", byte {place}: {}", why(fault));
+        }
     }
-    tell_recipe(rt, number, place);
-}
-
-// Says why there is no recipe: the refusal's number and place on the first line, then a sentence.
-pub fn refuse(rt: &HostRuntime, number: u8, place: usize) -> ExitCode
-    requires { ((20 ≤ number) × (number ≤ 25)) ⊎ (number ≡ 36) }
-{
-    tell_number(rt, number as usize);
-    tell(rt, b" ");
-    tell_number(rt, place);
-    tell(rt, b"\n");
-    tell_sentence(rt, number, place);
     ExitCode::SUCCESS
 }
 
 // Says that the recipe is too long.
 pub fn refuse_long(rt: &HostRuntime) -> ExitCode {
-    tell(rt, b"long\n");
+    let _ = eprintln!(rt; "long");
     tell_file(rt, 1);
-    tell(rt, b": longer than 139,132 bytes, the longest recipe\n");
+    let _ = eprintln!(rt; ": longer than 139,132 bytes, the longest recipe");
     ExitCode::SUCCESS
 }
 
@@ -102,38 +72,35 @@ fn write_named<W: Write>(
     name: &[u8],
     recipe: &[u8],
 ) -> Result<(), ExitCode> {
-    match output.write_all(recipe) {
-        Ok(()) => Ok(()),
-        Err(error) => Err(program_io::unwritten(rt, name, error)),
-    }
+    output
+        .write_all(recipe)
+        .map_err(|error| program_io::unwritten(rt, name, error))
 }
 
 // Hands on what is left of a file that was written; a message where that fails. The system closes it without an answer.
 fn close(rt: &HostRuntime, mut file: File, name: &[u8]) -> Result<(), ExitCode> {
-    match file.flush() {
-        Ok(()) => Ok(()),
-        Err(error) => Err(program_io::unwritten(rt, name, error)),
-    }
+    file.flush()
+        .map_err(|error| program_io::unwritten(rt, name, error))
 }
 
 // Writes the recipe into the file of this name, which is made anew or emptied first; a message where that fails.
 fn write_file(rt: &HostRuntime, name: &[u8], recipe: &[u8]) -> Result<(), ExitCode> {
-    match program_io::open_overwrite(rt, name) {
-        Ok(mut file) => {
-            write_named(rt, &mut file, name, recipe)?;
-            close(rt, file, name)
-        }
-        Err(error) => Err(program_io::unwritten(rt, name, error)),
-    }
+    let mut file = program_io::open_overwrite(rt, name).map_err(|error| program_io::unwritten(
+        rt, name, error,
+    ))?;
+    write_named(rt, &mut file, name, recipe)?;
+    close(rt, file, name)
 }
 
 // Writes the recipe into the file that the third argument names.
 fn write_argument(rt: &HostRuntime, recipe: &[u8]) -> Result<(), ExitCode> {
     let mut name = [0u8; 4096];
-    match program_io::arg(rt, 3, &mut name) {
-        Ok(n) => write_file(rt, &name[..n], recipe),
-        Err(error) => Err(program_io::unwritten(rt, b"the recipe's name", error)),
-    }
+    let n = program_io::arg(rt, 3, &mut name).map_err(|error| program_io::unwritten(
+        rt,
+        b"the recipe's name",
+        error,
+    ))?;
+    write_file(rt, &name[..n], recipe)
 }
 
 // Writes the recipe: into the file that is named for it, else on standard output.
@@ -148,16 +115,11 @@ fn write_out(rt: &HostRuntime, recipe: &[u8]) -> Result<(), ExitCode> {
 fn tell_erases(rt: &HostRuntime, erases: usize, size: usize, whole: usize)
     requires { (erases ≤ size) × (size ≤ whole) × (whole ≤ 139132) }
 {
-    tell_number(rt, erases);
-    tell(rt, b" erases\n");
-    tell_number(rt, erases);
-    tell(rt, b" of ");
-    tell_number(rt, (whole - size) / 68 + erases);
-    tell(rt, b" Blocks stay, ");
-    tell_number(rt, size);
-    tell(rt, b" of ");
-    tell_number(rt, whole);
-    tell(rt, b" bytes: the others already stand in the image\n");
+    let blocks = (whole - size) / 68 + erases;
+    let _ = eprintln!(rt; "{erases} erases");
+    let _ = eprintln!(rt;
+        "{erases} of {blocks} Blocks stay, {size} of {whole} bytes: the others already stand in the image"
+    );
 }
 
 // Writes the recipe, and then says how many erases it is, made from one of `whole` bytes.

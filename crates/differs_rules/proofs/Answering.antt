@@ -7,12 +7,9 @@ use Prim.Native.Nat.{ℕ, ◌≤◌, ◌<◌}
 use lib.ListN.{length, drop}
 use borrow.Author.Tests.{eq-eqb, ne_eqb, lt-ltb, le-ltb}
 use Rattle.memory_address.specs.Places.{flash_cells}
-use Rattle.recipe.specs.declared.Translated.{Translated}
-use Rattle.recipe.specs.declared.Translated.TheVariants.{Frames, Refused as Fault}
+use Rattle.recipe.specs.Translation.{Translated, Frames, Refused as Fault, checked}
 use Rattle.recipe.specs.Items.{printed}
-use Rattle.recipe.specs.Translation.{checked}
-use Rattle.differs_rules.specs.declared.Differences.{Differences}
-use Rattle.differs_rules.specs.declared.Differences.TheVariants.{Kept, Refused}
+use Rattle.differs_rules.specs.Differences.{Differences, Kept, Refused}
 use Rattle.differs_rules.specs.Keeping.{block_count}
 use Rattle.differs_rules.specs.Writing.{kept_of, answered, unless_refused, differences, output_after, differences_output}
 

@@ -7,3 +7,4 @@ pub mod Standing
 pub mod Pairing
 pub mod Answering
 pub mod Examples
+pub mod Tight

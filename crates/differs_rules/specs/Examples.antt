@@ -3,8 +3,7 @@
 use Rattle.std.specs.Prelude.{ℕ, ◌≡◌, List, [], ◌∷◌, ◌++◌, replicate}
 use Rattle.recipe.specs.Items.{Item, block, row, Recipe, printed}
 use Rattle.recipe.specs.Plain.{Memories, plainly}
-use Rattle.differs_rules.specs.declared.Differences.{Differences}
-use Rattle.differs_rules.specs.declared.Differences.TheVariants.{Kept, Refused}
+use Rattle.differs_rules.specs.Differences.{Differences, Kept, Refused}
 use Rattle.differs_rules.specs.Keeping.{kept_items, kept_recipe, block_count}
 use Rattle.differs_rules.specs.Writing.{differences, differences_output}
 

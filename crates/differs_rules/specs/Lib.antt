@@ -1,4 +1,5 @@
 pub mod Keeping
+pub mod Differences
 pub mod Writing
 pub mod Turns
 pub mod Pairs

@@ -2,13 +2,10 @@
 -- refused with a new number, checked after the recipe's own faults and before 26".
 use Rattle.std.specs.Prelude.{ℕ, cond, List, ◌++◌, eqb, ltb, length, drop}
 use Rattle.memory_address.specs.Places.{flash_cells}
-use Rattle.recipe.specs.declared.Translated.{Translated}
-use Rattle.recipe.specs.declared.Translated.TheVariants.{Frames, Refused as Fault}
+use Rattle.recipe.specs.Translation.{Translated, Frames, Refused as Fault, checked}
 use Rattle.recipe.specs.Items.{Recipe, printed}
 use Rattle.recipe.specs.Reading.{recipe_of}
-use Rattle.recipe.specs.Translation.{checked}
-use Rattle.differs_rules.specs.declared.Differences.{Differences}
-use Rattle.differs_rules.specs.declared.Differences.TheVariants.{Kept, Refused}
+use Rattle.differs_rules.specs.Differences.{Differences, Kept, Refused}
 use Rattle.differs_rules.specs.Keeping.{kept_recipe, block_count}
 
 -- the recipe that is written for an input

@@ -14,15 +14,13 @@ use borrow.Author.Tests.{eqb-true, eqb-false, ltb-true, ltb-false}
 use Rattle.base.specs.Parts.{Bytes}
 use Rattle.base.proofs.Choice.{true_or_false}
 use Rattle.memory_address.specs.Places.{flash_cells}
-use Rattle.recipe.specs.declared.Translated.TheVariants.{Frames, Refused as Fault}
+use Rattle.recipe.specs.Translation.{Frames, Refused as Fault, answer_at, checked}
 use Rattle.recipe.specs.Items.{Recipe, Legal, printed}
 use Rattle.recipe.specs.Frames.{frame_count}
 use Rattle.recipe.specs.Reading.{Stop, at_end, fault, reading, recipe_of}
-use Rattle.recipe.specs.Translation.{answer_at, checked}
 use Rattle.recipe.proofs.Accepts.{recipe_printed, checked_printed}
 use Rattle.recipe.proofs.OnlyLegal.{only_printed}
-use Rattle.differs_rules.specs.declared.Differences.{Differences}
-use Rattle.differs_rules.specs.declared.Differences.TheVariants.{Kept, Refused}
+use Rattle.differs_rules.specs.Differences.{Differences, Kept, Refused}
 use Rattle.differs_rules.specs.Keeping.{kept_recipe, block_count}
 use Rattle.differs_rules.specs.Writing.{kept_of, differences, differences_output}
 use Rattle.differs_rules.proofs.KeptLegal.{kept_legal}
@@ -97,7 +95,7 @@ module _ {recipe image before after : List ℕ} {d : Differences} (differs : Dif
   differ_shortened erases size e = by_stop (reading recipe).stop refl
     where
       no : (number place : ℕ) → d ≡ Refused number place → ⊥
-      no number place f = let z : ◌≡◌ {A = ℕ} 0 1 = let x = sym e ∙ f in cc in omega (arith, z)
+      no number place f = cc
 
       answer : (t : Stop) → (reading recipe).stop ≡ t → checked recipe ≡ answer_at t (length recipe) (frame_count (recipe_of recipe))
       answer t s = ap (λ (x : Stop). answer_at x (length recipe) (frame_count (recipe_of recipe))) s

@@ -12,8 +12,7 @@ use Rattle.node_rules.specs.declared.Node.{Node}
 use Rattle.node_rules.specs.declared.Mode.TheVariants.{Waiting}
 use Rattle.node_rules.specs.Record.{with_mode, tidied}
 use Rattle.node_rules.specs.Runs.{State, state}
-use Rattle.recipe.specs.declared.Translated.{Translated}
-use Rattle.recipe.specs.declared.Translated.TheVariants.{Frames}
+use Rattle.recipe.specs.Translation.{Translated, Frames}
 use Rattle.recipe.specs.Items.{Item, block, Recipe, Legal, printed}
 use Rattle.recipe.specs.Frames.{frames_of, joined, frame_count}
 use Rattle.recipe.specs.Plain.{Memories, Each}
@@ -23,8 +22,7 @@ use Rattle.update_deliver.specs.Delivering.{Left}
 use Rattle.update.specs.Calls.{Translate, Deliver}
 use Rattle.update.proofs.Translating.{translate_takes}
 use Rattle.update.proofs.Whole.{deliver_arrives}
-use Rattle.differs_rules.specs.declared.Differences.{Differences}
-use Rattle.differs_rules.specs.declared.Differences.TheVariants.{Kept}
+use Rattle.differs_rules.specs.Differences.{Differences, Kept}
 use Rattle.differs_rules.specs.Keeping.{left_by_all, kept_items, kept_recipe, block_count}
 use Rattle.differs_rules.specs.Turns.{StandsIn, AgreesOn}
 use Rattle.differs_rules.specs.Pairs.{erase_pairs}

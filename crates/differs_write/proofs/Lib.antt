@@ -3,6 +3,5 @@ pub mod Putting
 pub mod Showing
 pub mod Turning
 pub mod Seeing
-pub mod Lending
 pub mod Answering
 pub mod Tight

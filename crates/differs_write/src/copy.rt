@@ -11,13 +11,11 @@ pub fn put_kept(recipe: &[u8], places: &[u32], output: &mut [u8])
 {
     let mut from: usize = 0;
     let mut at: usize = 0;
-    let mut i: usize = 0;
-    while i < places.len() {
-        let place = places[i] as usize;
+    for &place in places {
+        let place = place as usize;
         base::put(output, at, &recipe[from..place]);
         at += place - from;
         from = place + 68;
-        i += 1;
     }
     base::put(output, at, &recipe[from..]);
 }

@@ -7,62 +7,41 @@ mod copy;
 mod walk;
 
 ghost use Rattle.std.specs.Prelude.{◌≡◌, length};
-ghost use Rattle.recipe.specs.Translation.{checked};
+ghost use Rattle.differs_rules.specs.Differences.{in_numbers};
 ghost use Rattle.differs_rules.specs.Writing.{differences, differences_output};
 ghost use Rattle.differs_write.specs.Taken.{BytesIfKept};
-ghost use Rattle.differs_write.specs.Internal.Steps.{other_length};
 
-use differs_rules::Differences;
+use differs_rules::{Fault, Kept, Refusal};
 use memory_address::FLASH_CELLS;
-use recipe::Translated;
-use walk::Walked;
-
-// The answer where the image has another length than FLASH: a fault of the recipe, or 36.
-fn other_length(recipe: &[u8]) -> Differences
-    ensures { result ≡ other_length (checked recipe.now) }
-{
-    match recipe_translate::check(recipe) {
-        Translated::Refused { number, place } => Differences::Refused {
-            number: number,
-            place: place,
-        },
-        Translated::Frames(count) => Differences::Refused {
-            number: 36,
-            place: 0,
-        },
-    }
-}
 
 // Writes a recipe without each Block whose 64 bytes already stand in the image, as the earlier items leave it; Rows all stay. It answers
 // the erase count and the length of what is written. A refusal leaves the output as it was, and bytes behind the recipe stay.
-pub fn differences(recipe: &[u8], image: &[u8], output: &mut [u8]) -> Differences
-    ensures { (result ≡ differences recipe.now image.now (length output.old))
+pub fn differences(recipe: &[u8], image: &[u8], output: &mut [u8]) -> Result<Kept, Refusal>
+    ensures { (in_numbers result ≡ differences recipe.now image.now (length output.old))
         × (output.new ≡ differences_output recipe.now image.now output.old)
-        × BytesIfKept result recipe.now }
+        × BytesIfKept (in_numbers result) recipe.now }
 {
     if image.len() != FLASH_CELLS {
-        return other_length(recipe);
+        recipe_translate::check(recipe)?;
+        return Err(Refusal {
+            fault: Fault::OtherLength,
+            place: 0,
+        });
     }
-    let mut last = [0u32; 1024];
+    let mut last = [None; 1024];
+    // A count stands beside the places: there is no heap, and an array has its length.
     let mut places = [0u32; 2048];
-    match walk::look_over(recipe, image, &mut last, &mut places) {
-        Walked::Refused { number, place } => Differences::Refused {
-            number: number,
-            place: place,
-        },
-        Walked::Kept { dropped, erases } => {
-            let size = recipe.len() - 68 * dropped;
-            if output.len() < size {
-                return Differences::Refused {
-                    number: 26,
-                    place: 0,
-                };
-            }
-            copy::put_kept(recipe, &places[0..dropped], output);
-            Differences::Kept {
-                erases: erases,
-                size: size,
-            }
-        }
+    let walk = walk::look_over(recipe, image, &mut last, &mut places)?;
+    let size = recipe.len() - 68 * walk.dropped;
+    if output.len() < size {
+        return Err(Refusal {
+            fault: Fault::Recipe(recipe::Fault::ShortOutput),
+            place: 0,
+        });
     }
+    copy::put_kept(recipe, &places[..walk.dropped], output);
+    Ok(Kept {
+        erases: walk.erases,
+        size,
+    })
 }

@@ -6,10 +6,11 @@ use mathlib.Core.List.{List}
 use Prim.Native.Nat.{ℕ}
 use lib.ListN.{length}
 use Rattle.base.specs.Parts.{Bytes}
-use Rattle.frame_rules.specs.declared.Identified.{Identified}
+use Rattle.frame_rules.specs.Numbers.{Identified}
 use Rattle.frame_rules.specs.Frame.{data_of, hapcan_of, identifier_of, legal_identifier, upper_flags}
 use Rattle.frame_rules.specs.Numbers.{to_hapcan_number, to_can_number, identified_of}
 use Rattle.frame_rules.proofs.Done.{to_hapcan_done, done_to_hapcan, to_can_done, done_to_can}
+use Rattle.frame_rules.proofs.Numbered.{identified_number}
 use Rattle.frame_can.specs.Calls.{ToHapcan, ToCan, call}
 
 -- what each contract says of such a call, as far as 0 goes
@@ -18,7 +19,7 @@ to_hapcan_said (call κs a r s p) = (p.0, λ z. rw z at p.1)
 
 to_can_said : {f held d : List ℕ} {r : Identified} → ToCan f held r d
     → (r ≡ identified_of (to_can_number f (length held)) f) × (r.number ≡ 0 → d ≡ data_of f)
-to_can_said (call κs a r s p) = (p.0, λ z. rw z at p.1)
+to_can_said (call κs a r s p) = (p.0, λ z. rw (sym (identified_number r) ∙ z) at p.1)
 
 -- what a call that gave 0 was handed, and what it left
 pub to_hapcan_gave : {i : ℕ} {d held f : List ℕ} → ToHapcan i d held 0 f
@@ -47,4 +48,4 @@ to_can_gives {f} {held} c h l u =
 
 -- a frame that was taken holds bytes, by the contract: a lent slice does, and to take it is to read it
 pub to_can_bytes : {f held d : List ℕ} {r : Identified} → ToCan f held r d → r.number ≡ 0 → Bytes f
-to_can_bytes (call κs a r s p) = p.2
+to_can_bytes (call κs a r s p) z = p.2 (sym (identified_number r) ∙ z)

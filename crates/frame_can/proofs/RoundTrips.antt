@@ -8,7 +8,7 @@ use Prim.Native.Nat.{ℕ, ◌≤◌}
 use native.Mathlib.Omega.{arith}
 use lib.ListN.{length, length-drop}
 use borrow.Author.Tests.{le-leb}
-use Rattle.frame_rules.specs.declared.Identified.{Identified}
+use Rattle.frame_rules.specs.Numbers.{Identified}
 use Rattle.frame_rules.specs.Frame.{data_of, identifier_of, legal_identifier, upper_flags}
 use Rattle.frame_rules.proofs.Fields.{hapcan_length, hapcan_data, hapcan_no_upper_flags, hapcan_identifier, hapcan_injective}
 use Rattle.frame_rules.proofs.Fields.{identifier_legal, identifier_hapcan, identifier_injective}

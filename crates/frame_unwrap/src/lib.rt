@@ -1,40 +1,39 @@
-// Unwrapping what came on UART. The answer is document 01's number: 0, or a refusal that leaves the lent output as it was. An output of
-// another length than the result is refused first, with 4. The twelve bytes are read whole before they are written: two lent slices might
-// overlap for all the compiler knows.
+// Unwrapping what came on UART. A refusal leaves the lent output as it was. An output of another length than the result is refused first.
+// The twelve bytes are read whole before they are written: two lent slices might overlap for all the compiler knows.
 #![tactic(auto)]
 
-mod content;
-
 ghost use Rattle.std.specs.Prelude.{◌≡◌, length};
-ghost use Rattle.frame_rules.specs.Wrapping.{inner_of};
-ghost use Rattle.frame_rules.specs.Numbers.{unwrap_number, output_after};
+ghost use Rattle.frame_rules.specs.Wrapping.{inner_of, rightly_wrapped};
+ghost use Rattle.frame_rules.specs.Numbers.{unwrap_number, output_after, number_of};
 
-// The number of an unwrapping.
-fn unwrap_number(wrapped: &[u8], room: usize) -> u8
-    ensures { result ≡ unwrap_number wrapped.now room }
+use frame_rules::Refusal;
+
+// Whether these are 15 bytes with a right start, sum and stop.
+#[tactic(auto, unfolding(frame_rules::specs::Wrapping::rightly_wrapped))]
+fn rightly_wrapped(wrapped: &[u8]) -> bool
+    ensures { result ≡ rightly_wrapped wrapped.now }
 {
-    if room != 12 {
-        return 4;
-    }
-    if wrapped.len() != 15 {
-        return 4;
-    }
-    if !content::rightly_wrapped(wrapped) {
-        return 11;
-    }
-    0
+    wrapped.len() == 15
+        && wrapped[0] == 0xAA
+        && wrapped[13] == frame_sum::sum_of(&wrapped[1..13])
+        && wrapped[14] == 0xA5
 }
 
-// The 12 bytes of a frame as it came on UART. 4 for not 15 bytes, 11 for a wrong start, sum or stop; flags are not looked at.
-pub fn unwrap(wrapped: &[u8], frame: &mut [u8]) -> u8
-    ensures { (result ≡ unwrap_number wrapped.now (length frame.old))
-        × (frame.new ≡ output_after result (inner_of wrapped.now) frame.old) }
+// The 12 bytes of a frame as it came on UART. Misshapen for not 15 bytes, else WronglyWrapped for a wrong start, sum or stop; flags are
+// not looked at.
+#[tactic(auto, unfolding(frame_rules::specs::Numbers::unwrap_number))]
+pub fn unwrap(wrapped: &[u8], frame: &mut [u8]) -> Result<(), Refusal>
+    ensures { (number_of result ≡ unwrap_number wrapped.now (length frame.old))
+        × (frame.new ≡ output_after (number_of result) (inner_of wrapped.now) frame.old) }
 {
-    let unwrap_number = unwrap_number(wrapped, frame.len());
-    if unwrap_number == 0 {
-        let mut inner = [0u8; 12];
-        inner.copy_from_slice(&wrapped[1..13]);
-        frame.copy_from_slice(&inner);
+    if frame.len() != 12 || wrapped.len() != 15 {
+        return Err(Refusal::Misshapen);
     }
-    unwrap_number
+    if !rightly_wrapped(wrapped) {
+        return Err(Refusal::WronglyWrapped);
+    }
+    let mut inner = [0u8; 12];
+    inner.copy_from_slice(&wrapped[1..13]);
+    frame.copy_from_slice(&inner);
+    Ok(())
 }

@@ -1,67 +1,36 @@
--- The line that the reading answers with: bad where a test fails, and else the characters that were read, with the place behind them.
+-- The line that the reading answers with: none where a test fails, and else the characters that were read, with the place behind them.
 -- Assumes nothing.
 use mathlib.Core.Path.{◌≡◌, ◌∙◌, refl, sym, ap, ap₂}
-use mathlib.Core.Bool.{Bool, true, false, ◌||◌, cond, false≢true}
+use mathlib.Core.Bool.{Bool, true, false, ◌||◌, false≢true}
 use mathlib.Core.List.{List, [], ◌∷◌, ◌++◌}
 use mathlib.Core.Logic.{◌⊎◌, inl, inr}
 use Prim.Native.Nat.{ℕ, zero, suc, ◌+◌, ◌-◌, ◌*◌, ◌≤◌, ◌<◌}
 use native.Mathlib.Omega.{arith}
-use borrow.Author.Tests.{ltb-false}
-use lib.Dec.{eqb, ltb}
-use lib.ListN.{length, get_or, take, drop, replicate, length-append, length-drop}
-use lib.Seq.{drop-drop}
-use Rattle.base.proofs.Choice.{by_cond, cond_true, true_or_false}
+use lib.ListN.{length, get_or, take, drop, replicate, length-drop, drop_of_length-le}
+use Rattle.std.proofs.Math.Seq.{take_all}
+use Rattle.std.specs.Prelude.{Some, None}
+use Rattle.base.proofs.Choice.{true_or_false}
 use Rattle.hex_rules.specs.Text.{lines_of}
-use Rattle.hex_rules.specs.Record.{colon, all_digits, pairs_of, bad_digit, bad_length, bad_count}
-use Rattle.hex_line.specs.declared.Line.{Line}
-use Rattle.hex_line.specs.declared.digits.Pairs.{Pairs}
-use Rattle.hex_line.specs.Internal.Lines.{bad_line, ending as endingOf, filled, line_by, line_at}
-use Rattle.hex_line.specs.Internal.Reading.{pairs_read, byte_of, count_at, ending_at}
-use Rattle.hex_line.proofs.Splitting.{Split, split_first, ends_of, ending_at_length}
-use Rattle.hex_line.proofs.Formed.{Passed, passes, formed, in_form, size_at, digits_at, read_at, first_line}
+use Rattle.hex_rules.specs.Record.{all_digits, pairs_of, record_of, count_of, bad_digit, bad_length, bad_count}
+use Rattle.hex_line.specs.Internal.Lines.{ending as endingOf, filled, line_by, line_at}
+use Rattle.hex_line.specs.Internal.Reading.{pairs_read, count_at, ending_at}
+use Rattle.hex_line.proofs.Choosing.{chosen, not_chosen, none_some, some_same}
+use Rattle.hex_line.proofs.Splitting.{Split, split_first}
+use Rattle.hex_line.proofs.Formed.{Passed, passes, formed, in_form, size_of, digits_at, read_at, first_line}
 use Rattle.hex_line.proofs.Lines.{line_is_bad, line_is_good}
 
 bad_first : (at : ℕ) (t : List ℕ) (s : Split t)
     → (((bad_digit s.line || bad_length s.line) ≡ true) ⊎ ((bad_digit s.line || bad_length s.line) ≡ false))
-    → (Passed t → ⊥) → line_by at t (lines_of t) ≡ bad_line
+    → ((n e : ℕ) → Passed t n e → ⊥) → line_by at t (lines_of t) ≡ None
 bad_first at t s (inl g) h = ap (line_by at t) s.lines ∙ line_is_bad at t s.line (lines_of s.rest) g
 bad_first at t s (inr g) h =
-    absurd (h (rw s.whole (passes s.line s.end s.rest (formed s.line g) s.ends)))
+    absurd (h (count_of (record_of s.line)) (length s.end) (rw s.whole (passes s.line s.end s.rest (formed s.line g) s.ends)))
 
-bad_text : (at : ℕ) (t : List ℕ) → (Passed t → ⊥) → line_by at t (lines_of t) ≡ bad_line
+bad_text : (at : ℕ) (t : List ℕ) → ((n e : ℕ) → Passed t n e → ⊥) → line_by at t (lines_of t) ≡ None
 unfolding lines_of
 bad_text at [] h = refl
 bad_text at (b ∷ bs) h =
     let s = split_first b bs in bad_first at (b ∷ bs) s (true_or_false (bad_digit s.line || bad_length s.line)) h
-
--- a test that fails
-pub found_bad : (text : List ℕ) (at : ℕ) (r : Line) → r ≡ bad_line → (Passed (drop at text) → ⊥) → r ≡ line_at text at
-unfolding line_at
-found_bad text at r e h = e ∙ sym (bad_text at (drop at text) h)
-
--- all tests passed
-passed_line : (at : ℕ) (t : List ℕ) → Passed t → (next : ℕ) (bytes : List ℕ)
-    → next ≡ at + (size_at t + ending_at (drop (size_at t) t)) → bytes ≡ filled (pairs_of (digits_at t))
-    → record { good = true; next = next; bytes = bytes } ≡ line_by at t (lines_of t)
-passed_line at t p next bytes e b =
-    let f = first_line t p in
-    let same : next ≡ at + (length (read_at t) + endingOf (drop (length (read_at t)) t)) = omega (arith, f.size, f.ending) in
-    ap₂ (λ (m : ℕ) (x : List ℕ). record { good = true; next = m; bytes = x }) same (b ∙ ap filled (sym f.bytes))
-    ∙ sym (line_is_good at t (read_at t) (lines_of f.rest) (in_form (read_at t) f.formed))
-    ∙ sym (ap (line_by at t) f.lines)
-
--- what the pairs that were read say of the digits
-pairs_good : (d : List ℕ) → (pairs_read d).good ≡ all_digits d
-unfolding pairs_read
-pairs_good d =
-    by_cond (λ (p : Pairs). (b : Bool) → all_digits d ≡ b → p.good ≡ b) (all_digits d) (record { good = true; bytes = filled (pairs_of d) })
-    (record { good = false; bytes = replicate 260 0 }) (λ t b e. sym t ∙ e) (λ f b e. sym f ∙ e) (all_digits d) refl
-
-pairs_bytes : (d : List ℕ) → all_digits d ≡ true → (pairs_read d).bytes ≡ filled (pairs_of d)
-unfolding pairs_read
-pairs_bytes d e =
-    ap (λ (p : Pairs). p.bytes)
-    (cond_true (all_digits d) (record { good = true; bytes = filled (pairs_of d) }) (record { good = false; bytes = replicate 260 0 }) e)
 
 -- bytes filled up with 0 have the same parts: behind the end there is 0
 zeros : (n i : ℕ) → get_or {A = ℕ} (replicate n 0) i 0 ≡ 0
@@ -77,83 +46,100 @@ same_part (x ∷ bytes) n (suc i) = same_part bytes n i
 count_filled : (r : List ℕ) → bad_count (filled r) ≡ bad_count r
 count_filled r = simp (same_part r (260 - length r) 3, same_part r (260 - length r) 0)
 
--- a count below 256 is read where eleven characters are left
-long_enough : (t : List ℕ) → count_at t ≤ 255 → 11 ≤ length t
-unfolding count_at
-long_enough t =
-    by_cond (λ (v : ℕ). v ≤ 255 → 11 ≤ length t) (ltb (length t) 11) 256
-    (cond (eqb (get_or t 0 0) colon) (byte_of (get_or t 1 0) (get_or t 2 0)) 256) (λ _ h. absurd (omega arith))
-    (λ e h. ltb-false (length t) 11 e)
+-- what pairs that were read say of the digits, and none
+pairs_found : (d bytes : List ℕ) → pairs_read d ≡ Some bytes → (all_digits d ≡ true) × (filled (pairs_of d) ≡ bytes)
+unfolding pairs_read
+pairs_found d bytes e = chosen (all_digits d) (filled (pairs_of d)) bytes e
 
-ending_within : (behind : List ℕ) → (ending_at behind ≡ 3 → ⊥) → ending_at behind ≤ length behind
-ending_within behind h =
-    let s = ends_of behind h in
-    let e = ap ending_at s.whole ∙ ending_at_length s.end s.rest s.ends in
-    let l = ap length s.whole ∙ length-append s.end s.rest in
-    omega (arith, e, l)
+pairs_missing : (d : List ℕ) → pairs_read d ≡ None → all_digits d ≡ false
+unfolding pairs_read
+pairs_missing d e = not_chosen (all_digits d) (filled (pairs_of d)) e
 
--- the digits that the code lends
-abbrev lent : List ℕ → ℕ → ℕ → List ℕ
-lent text at n = take (at + (11 + 2 * n) - (at + 1)) (drop (at + 1) text)
+-- the place is behind the text
+pub no_rest : (text : List ℕ) (at : ℕ) → length text ≤ at → None ≡ line_at text at
+unfolding line_at lines_of
+no_rest text at h = rw (drop_of_length-le text {i = at} h)
 
--- what the code finds, one after the other: the count, the ending, the pairs, and whether the type wants another count
-module _ (text : List ℕ) (at n : ℕ) (counted : n ≡ count_at (drop at text)) where
-  pub over : 255 < n → Passed (drop at text) → ⊥
-  over h p = omega (arith, p.few)
+-- what is lent from a place on, to the end, and what the digits are
+pub lent_rest : (s : List ℕ) (k : ℕ) → take (length s - k) (drop k s) ≡ drop k s
+lent_rest s k = take_all (length s - k) (drop k s) (simp length-drop (omega arith))
 
-  pub inside : n ≤ 255 → at + 11 ≤ length text
-  inside h = let l = long_enough (drop at text) (omega arith) in omega (arith, length-drop at text)
+lent_digits : (s : List ℕ) (n : ℕ) → take (11 + 2 * n - 1) (drop 1 s) ≡ digits_at s n
+lent_digits s n = let ten : 11 + 2 * n - 1 ≡ 10 + 2 * n = omega arith in ap (λ (m : ℕ). take m (drop 1 s)) ten
 
-  pub short : length text - at < 11 + 2 * n → Passed (drop at text) → ⊥
-  short h p = omega (arith, p.long, length-drop at text)
+-- what the code finds in the rest, one after the other: the count, the digits, the ending, and whether the type wants another count
+module _ (text : List ℕ) (at : ℕ) (rest : List ℕ) (is : rest ≡ take (length text - at) (drop at text)) where
+  here : rest ≡ drop at text
+  here = is ∙ lent_rest text at
 
-  behind : drop (at + (11 + 2 * n)) text ≡ drop (size_at (drop at text)) (drop at text)
-  behind = sym (drop-drop (11 + 2 * n) at text) ∙ ap (λ (m : ℕ). drop (11 + 2 * m) (drop at text)) counted
+  none_passed : ((n e : ℕ) → Passed rest n e → ⊥) → None ≡ line_at text at
+  unfolding line_at
+  none_passed h = rw (← here) (sym (bad_text at rest h))
 
-  digits : lent text at n ≡ digits_at (drop at text)
-  digits =
-      let ten : at + (11 + 2 * n) - (at + 1) ≡ 10 + 2 * count_at (drop at text) = omega arith in
-      ap₂ take ten (sym (drop-drop 1 at text))
+  pub no_count : None ≡ count_at rest → None ≡ line_at text at
+  no_count e = none_passed (λ n k p. none_some (e ∙ p.counted))
 
-  module _ (e : ℕ) (found : e ≡ ending_at (drop (at + (11 + 2 * n)) text)) where
-    ending : e ≡ ending_at (drop (size_at (drop at text)) (drop at text))
-    ending = found ∙ ap ending_at behind
+  module _ (n : ℕ) (counted : Some n ≡ count_at rest) where
+    same : (m e : ℕ) → Passed rest m e → m ≡ n
+    same m e p = some_same (sym p.counted ∙ sym counted)
 
-    pub open_ended : e ≡ 3 → Passed (drop at text) → ⊥
-    open_ended h p = p.ends (sym ending ∙ h)
+    pub short : length rest < size_of n → None ≡ line_at text at
+    short h = none_passed (λ m e p. omega (arith, p.long, same m e p))
 
-    pub next_fits : at + (11 + 2 * n) ≤ length text → (e ≡ 3 → ⊥) → at + (11 + 2 * n) + e ≤ length text
-    next_fits l h =
-        let w = ending_within (drop (at + (11 + 2 * n)) text) (λ k. h (found ∙ k)) in
-        omega (arith, length-drop (at + (11 + 2 * n)) text)
+    pub no_ending : None ≡ ending_at (take (length rest - size_of n) (drop (size_of n) rest)) → None ≡ line_at text at
+    no_ending h =
+        none_passed (λ m e p.
+        none_some (h
+        ∙ ap ending_at (lent_rest rest (size_of n))
+        ∙ ap (λ (k : ℕ). ending_at (drop (size_of k) rest)) (sym (same m e p))
+        ∙ p.ends))
 
-    module _ (pairs : Pairs) (read : pairs ≡ pairs_read (lent text at n)) where
-      good : pairs.good ≡ all_digits (digits_at (drop at text))
-      good = ap (λ (p : Pairs). p.good) read ∙ pairs_good (lent text at n) ∙ ap all_digits digits
+    module _ (digits : List ℕ) (lent : digits ≡ take (size_of n - 1) (drop 1 rest)) where
+      those : digits ≡ digits_at rest n
+      those = lent ∙ lent_digits rest n
 
-      bytes : pairs.good ≡ true → pairs.bytes ≡ filled (pairs_of (digits_at (drop at text)))
-      bytes h =
-          ap (λ (p : Pairs). p.bytes) (read ∙ ap pairs_read digits) ∙ pairs_bytes (digits_at (drop at text)) (sym good ∙ h)
+      pub no_digits : None ≡ pairs_read digits → None ≡ line_at text at
+      no_digits h =
+          none_passed (λ m e p.
+          false≢true (sym (pairs_missing digits (sym h))
+          ∙ ap all_digits those
+          ∙ ap (λ (k : ℕ). all_digits (digits_at rest k)) (sym (same m e p))
+          ∙ p.digits))
 
-      pub no_digits : pairs.good ≡ false → Passed (drop at text) → ⊥
-      no_digits h p = false≢true (sym h ∙ good ∙ p.digits)
+      module _ (bytes : List ℕ) (read : Some bytes ≡ pairs_read digits) (bad : Bool) (tested : bad ≡ bad_count bytes) where
+        pairs : filled (pairs_of (digits_at rest n)) ≡ bytes
+        pairs = rw (← those) (pairs_found digits bytes (sym read)).1
 
-      module _ (allGood : pairs.good ≡ true) (bad : Bool) (tested : bad ≡ bad_count pairs.bytes) where
-        wanted : bad ≡ bad_count (pairs_of (digits_at (drop at text)))
-        wanted = tested ∙ ap bad_count (bytes allGood) ∙ count_filled (pairs_of (digits_at (drop at text)))
+        wanted : bad ≡ bad_count (pairs_of (digits_at rest n))
+        wanted = tested ∙ ap bad_count (sym pairs) ∙ count_filled (pairs_of (digits_at rest n))
 
-        pub other_count : bad ≡ true → Passed (drop at text) → ⊥
-        other_count h p = false≢true (sym p.count ∙ sym wanted ∙ h)
+        pub other_count : bad ≡ true → None ≡ line_at text at
+        other_count h =
+            none_passed (λ m e p.
+            false≢true (sym p.count ∙ ap (λ (k : ℕ). bad_count (pairs_of (digits_at rest k))) (same m e p) ∙ sym wanted ∙ h))
 
-        pub found_good : n ≤ 255 → 11 + 2 * n ≤ length text - at → (e ≡ 3 → ⊥) → bad ≡ false
-            → record { good = true; next = at + (11 + 2 * n) + e; bytes = pairs.bytes } ≡ line_at text at
-        unfolding line_at
-        found_good few long ends h =
-            let p : Passed (drop at text) = record {
-              few = omega arith;
-              long = omega (arith, length-drop at text);
-              ends = λ k. ends (ending ∙ k);
-              digits = sym good ∙ allGood;
-              count = sym wanted ∙ h;
-            } in
-            passed_line at (drop at text) p (at + (11 + 2 * n) + e) pairs.bytes (omega (arith, ending)) (bytes allGood)
+        module _ (e : ℕ) (long : size_of n ≤ length rest)
+            (ends : Some e ≡ ending_at (take (length rest - size_of n) (drop (size_of n) rest))) (h : bad ≡ false) where
+          passed : Passed rest n e
+          passed =
+              record {
+                counted = sym counted;
+                long = long;
+                ends = sym (ends ∙ ap ending_at (lent_rest rest (size_of n)));
+                digits = ap all_digits (sym those) ∙ (pairs_found digits bytes (sym read)).0;
+                count = sym wanted ∙ h;
+              }
+
+          pub next_fits : at + size_of n + e ≤ length text
+          next_fits = let f = first_line rest n e passed in omega (arith, f.within, ap length here, length-drop at text)
+
+          pub found : Some (record { next = at + size_of n + e; bytes = bytes }) ≡ line_at text at
+          unfolding line_at
+          found =
+              let f = first_line rest n e passed in
+              let next : at + size_of n + e ≡ at + (length (read_at rest n) + endingOf (drop (length (read_at rest n)) rest)) =
+              omega (arith, f.size, f.ending) in
+              rw (← here)
+              (ap₂ (λ (m : ℕ) (x : List ℕ). Some (record { next = m; bytes = x })) next (sym pairs ∙ ap filled (sym f.bytes))
+              ∙ sym (line_is_good at rest (read_at rest n) (lines_of f.rest) (in_form (read_at rest n) f.formed))
+              ∙ sym (ap (line_by at rest) f.lines))

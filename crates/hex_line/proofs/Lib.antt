@@ -1,6 +1,7 @@
 mod Table
+mod Choosing
 mod Pairs
-mod Steps
+mod Ending
 mod Splitting
 mod Formed
 mod Found

@@ -7,13 +7,14 @@ use mathlib.Core.List.{List, [], ◌∷◌, ◌++◌, append_assoc, append-nil}
 use Prim.Native.Nat.{ℕ, suc, ◌+◌, ◌-◌, ◌*◌, ◌%◌, ◌≤◌, ◌<◌}
 use native.Mathlib.Numerals.{add-one}
 use native.Mathlib.Omega.{arith}
-use borrow.Author.Tests.{lt-ltb, le-ltb}
 use lib.ListN.{length, get_or, set, take, drop, replicate, length-replicate, length-set, take-append-drop, drop_of_length-le}
 use lib.Seq.{drop-cons, drop-drop, drop-set-lt, take-suc-set, length-take-le}
+use Rattle.std.specs.Prelude.{Some, None}
 use Rattle.base.proofs.Choice.{cond_true, cond_false}
 use Rattle.hex_rules.specs.Record.{digit_of, is_digit, all_digits, pairs_of}
 use Rattle.hex_line.specs.Internal.Lines.{filled}
-use Rattle.hex_line.specs.Internal.Reading.{pairs_read}
+use Rattle.hex_line.specs.Internal.Reading.{byte_of, pairs_read}
+use Rattle.hex_line.proofs.Choosing.{byte_found, byte_missing}
 
 -- where the reading of digits stands after i turns
 pub record Done (digits bytes : List ℕ) (i : ℕ) : Type 0 where
@@ -39,31 +40,21 @@ next_two s k h =
     ∙ ap (λ (t : List ℕ). get_or s k 0 ∷ t) (rw (add-one k, add-one (suc k)) (drop-cons s (suc k) 0 (omega arith)))
 
 -- all of them digits, or one of them not
-all_good : (digits : List ℕ) → all_digits digits ≡ true → record { good = true; bytes = filled (pairs_of digits) } ≡ pairs_read digits
+all_good : (digits : List ℕ) → all_digits digits ≡ true → Some (filled (pairs_of digits)) ≡ pairs_read digits
 unfolding pairs_read
-all_good digits e =
-    sym (
-    cond_true (all_digits digits) (record { good = true; bytes = filled (pairs_of digits) })
-    (record { good = false; bytes = replicate 260 0 }) e
-    )
+all_good digits e = sym (cond_true (all_digits digits) _ _ e)
 
-not_good : (digits : List ℕ) → all_digits digits ≡ false → record { good = false; bytes = replicate 260 0 } ≡ pairs_read digits
+not_good : (digits : List ℕ) → all_digits digits ≡ false → None ≡ pairs_read digits
 unfolding pairs_read
-not_good digits e =
-    sym (
-    cond_false (all_digits digits) (record { good = true; bytes = filled (pairs_of digits) })
-    (record { good = false; bytes = replicate 260 0 }) e
-    )
+not_good digits e = sym (cond_false (all_digits digits) _ _ e)
 
 -- one zero fewer
 less : (n m : ℕ) → n ≡ suc m → drop {A = ℕ} 1 (replicate n 0) ≡ replicate m 0
 less n m e = rw e
 
-first_bad : (x y z : Bool) → x ≡ false → (x && (y && z)) ≡ false
-first_bad x y z e = rw e
-
-second_bad : (x y z : Bool) → x ≡ true → y ≡ false → (x && (y && z)) ≡ false
-second_bad x y z e f = rw (e, f)
+one_bad : (x y z : Bool) → (x && y) ≡ false → (x && (y && z)) ≡ false
+one_bad true y z e = ap (λ (b : Bool). b && z) e
+one_bad false y z e = refl
 
 two_good : (x y z : Bool) → x ≡ true → y ≡ true → (x && (y && z)) ≡ z
 two_good x y z e f = rw (e, f)
@@ -87,49 +78,35 @@ module _ (digits bytes : List ℕ) (i : ℕ) (d : Done digits bytes i) (even : l
   all : all_digits digits ≡ (is_digit (high_at digits i) && (is_digit (low_at digits i) && all_digits (behind digits i)))
   all = sym d.good ∙ ap all_digits two
 
-  pub bad_high : (high : ℕ) → high ≡ digit_of (high_at digits i) → 15 < high
-      → record { good = false; bytes = replicate 260 0 } ≡ pairs_read digits
-  bad_high high e h =
+  pub bad_pair : byte_of (high_at digits i) (low_at digits i) ≡ None → None ≡ pairs_read digits
+  bad_pair e =
       not_good digits
-      (all
-      ∙ first_bad (is_digit (high_at digits i)) (is_digit (low_at digits i)) (all_digits (behind digits i))
-      (le-ltb (digit_of (high_at digits i)) 16 (omega arith)))
+      (all ∙ one_bad (is_digit (high_at digits i)) (is_digit (low_at digits i)) (all_digits (behind digits i)) (byte_missing _ _ e))
 
-  pub bad_low : (high low : ℕ) → high ≡ digit_of (high_at digits i) → low ≡ digit_of (low_at digits i) → high ≤ 15 → 15 < low
-      → record { good = false; bytes = replicate 260 0 } ≡ pairs_read digits
-  bad_low high low e f h l =
-      not_good digits
-      (all
-      ∙ second_bad (is_digit (high_at digits i)) (is_digit (low_at digits i)) (all_digits (behind digits i))
-      (lt-ltb (digit_of (high_at digits i)) 16 (omega arith)) (le-ltb (digit_of (low_at digits i)) 16 (omega arith)))
-
-  pub turn : (high low : ℕ) → high ≡ digit_of (high_at digits i) → low ≡ digit_of (low_at digits i) → high ≤ 15 → low ≤ 15
-      → Done digits (set bytes i (16 * high + low)) (i + 1)
-  turn high low e f h l =
+  pub turn : (b : ℕ) → byte_of (high_at digits i) (low_at digits i) ≡ Some b → Done digits (set bytes i b) (i + 1)
+  turn b e =
+      let f = byte_found (high_at digits i) (low_at digits i) b e in
       let n : 2 * (i + 1) ≡ 2 * i + 1 + 1 = omega arith in
-      let v : 16 * high + low ≡ 16 * digit_of (high_at digits i) + digit_of (low_at digits i) = omega arith in
+      let v : b ≡ 16 * digit_of (high_at digits i) + digit_of (low_at digits i) = f.2 in
       let k : i < length bytes = omega (arith, d.size) in record {
         within = omega arith;
-        size = length-set bytes i (16 * high + low) ∙ d.size;
+        size = length-set bytes i b ∙ d.size;
         read =
-            ap₂ (λ (a b : List ℕ). a ++ pairs_of b)
-            (ap (λ (m : ℕ). take m (set bytes i (16 * high + low))) (add-one i) ∙ take-suc-set bytes i (16 * high + low) k)
+            ap₂ (λ (x y : List ℕ). x ++ pairs_of y)
+            (ap (λ (m : ℕ). take m (set bytes i b)) (add-one i) ∙ take-suc-set bytes i b k)
             (ap (λ (m : ℕ). drop m digits) n)
-            ∙ append_assoc (take i bytes) ((16 * high + low) ∷ []) (pairs_of (behind digits i))
+            ∙ append_assoc (take i bytes) (b ∷ []) (pairs_of (behind digits i))
             ∙ ap (λ (m : ℕ). take i bytes ++ (m ∷ pairs_of (behind digits i))) v
             ∙ ap (λ (t : List ℕ). take i bytes ++ pairs_of t) (sym two)
             ∙ d.read;
         rest =
-            drop-set-lt (i + 1) bytes i (16 * high + low) (omega arith)
+            drop-set-lt (i + 1) bytes i b (omega arith)
             ∙ sym (drop-drop 1 i bytes)
             ∙ ap (λ (t : List ℕ). drop 1 t) d.rest
             ∙ less (260 - i) (260 - (i + 1)) (omega arith);
         good =
             ap (λ (m : ℕ). all_digits (drop m digits)) n
-            ∙ sym (
-            two_good (is_digit (high_at digits i)) (is_digit (low_at digits i)) (all_digits (behind digits i))
-            (lt-ltb (digit_of (high_at digits i)) 16 (omega arith)) (lt-ltb (digit_of (low_at digits i)) 16 (omega arith))
-            )
+            ∙ sym (two_good (is_digit (high_at digits i)) (is_digit (low_at digits i)) (all_digits (behind digits i)) f.0 f.1)
             ∙ sym all;
       }
 
@@ -150,6 +127,5 @@ module _ (digits bytes : List ℕ) (i : ℕ) (d : Done digits bytes i) (few : le
       sym (take-append-drop i bytes)
       ∙ ap₂ ◌++◌ first_read (d.rest ∙ ap (λ (m : ℕ). replicate (260 - m) 0) (sym count_read))
 
-  pub all_read : record { good = true; bytes = bytes } ≡ pairs_read digits
-  all_read =
-      ap (λ (b : List ℕ). record { good = true; bytes = b }) filled_up ∙ all_good digits (sym d.good ∙ ap all_digits none_left)
+  pub all_read : Some bytes ≡ pairs_read digits
+  all_read = ap Some filled_up ∙ all_good digits (sym d.good ∙ ap all_digits none_left)

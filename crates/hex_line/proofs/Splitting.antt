@@ -10,6 +10,7 @@ use native.Mathlib.Omega.{arith}
 use borrow.Author.Tests.{eqb-true, ne_eqb}
 use lib.Dec.{eqb}
 use lib.ListN.{length}
+use Rattle.std.specs.Prelude.{Some, None}
 use Rattle.base.proofs.Choice.{cond_true, cond_false, true_or_false, both_true}
 use Rattle.hex_rules.specs.Text.{lf, cr, in_ending, in_first, lines_of}
 use Rattle.hex_line.specs.Internal.Lines.{ending}
@@ -142,7 +143,7 @@ ending_length _ rest of_lf = simp (ne_eqb (suc (length rest)) 0 (λ e. omega ari
 ending_length _ rest of_cr_lf = simp (ne_eqb (suc (suc (length rest))) 0 (λ e. omega arith))
 ending_length _ _ of_text = refl
 
-pub ending_at_length : (e rest : List ℕ) → Ending e rest → ending_at (e ++ rest) ≡ length e
+pub ending_at_length : (e rest : List ℕ) → Ending e rest → ending_at (e ++ rest) ≡ Some (length e)
 unfolding ending_at
 ending_at_length _ rest of_lf = simp (ne_eqb (suc (length rest)) 0 (λ e. omega arith))
 ending_at_length _ rest of_cr_lf = simp (ne_eqb (suc (suc (length rest))) 0 (λ e. omega arith))
@@ -155,36 +156,38 @@ pub record Ends (behind : List ℕ) : Type 0 where
   pub ends : Ending end rest
   pub whole : behind ≡ end ++ rest
 
-not_ended : (b : ℕ) (bs : List ℕ) → eqb b lf ≡ false → in_ending b bs ≡ false → ending_at (b ∷ bs) ≡ 3
+not_ended : (b : ℕ) (bs : List ℕ) → eqb b lf ≡ false → in_ending b bs ≡ false → ending_at (b ∷ bs) ≡ None
 unfolding ending_at
-not_ended b bs e f =
-    cond_false (eqb (suc (length bs)) 0) 0 (cond (eqb b lf) 1 (cond (in_ending b bs) 2 3)) (ne_eqb (suc (length bs)) 0 (λ k. omega arith))
-    ∙ cond_false (eqb b lf) 1 (cond (in_ending b bs) 2 3) e
-    ∙ cond_false (in_ending b bs) 2 3 f
+not_ended b bs e f = simp (ne_eqb (suc (length bs)) 0 (λ k. omega arith), e, f)
 
-ends_one : (b : ℕ) → (eqb b lf ≡ true) ⊎ (eqb b lf ≡ false) → (ending_at (b ∷ []) ≡ 3 → ⊥) → Ends (b ∷ [])
-ends_one b (inl e) h = record { end = lf ∷ []; rest = []; ends = of_lf; whole = ap (λ (x : ℕ). x ∷ []) (eqb-true b lf e) }
-ends_one b (inr e) h = absurd (h (not_ended b [] e (no_cr_last (eqb b cr))))
+-- a line that does not end has no ending's length
+no_length : (behind : List ℕ) (n : ℕ) → ending_at behind ≡ None → ending_at behind ≡ Some n → ⊥
+no_length behind n e f = let z : ◌≡◌ {A = ℕ} 0 1 = cc in omega arith
+
+ends_one : (b : ℕ) → (eqb b lf ≡ true) ⊎ (eqb b lf ≡ false) → (n : ℕ) → ending_at (b ∷ []) ≡ Some n → Ends (b ∷ [])
+ends_one b (inl e) n h = record { end = lf ∷ []; rest = []; ends = of_lf; whole = ap (λ (x : ℕ). x ∷ []) (eqb-true b lf e) }
+ends_one b (inr e) n h = absurd (no_length _ n (not_ended b [] e (no_cr_last (eqb b cr))) h)
 
 ends_by : (b d : ℕ) (bs : List ℕ) → (eqb b lf ≡ true) ⊎ (eqb b lf ≡ false)
-    → (in_ending b (d ∷ bs) ≡ true) ⊎ (in_ending b (d ∷ bs) ≡ false) → (ending_at (b ∷ (d ∷ bs)) ≡ 3 → ⊥) → Ends (b ∷ (d ∷ bs))
-ends_by b d bs (inl e) f h = record {
+    → (in_ending b (d ∷ bs) ≡ true) ⊎ (in_ending b (d ∷ bs) ≡ false) → (n : ℕ) → ending_at (b ∷ (d ∷ bs)) ≡ Some n
+    → Ends (b ∷ (d ∷ bs))
+ends_by b d bs (inl e) f n h = record {
   end = lf ∷ [];
   rest = d ∷ bs;
   ends = of_lf;
   whole = ap (λ (x : ℕ). x ∷ (d ∷ bs)) (eqb-true b lf e);
 }
-ends_by b d bs (inr e) (inl f) h =
+ends_by b d bs (inr e) (inl f) n h =
     let two = both_true (eqb b cr) (eqb d lf) f in record {
       end = cr ∷ (lf ∷ []);
       rest = bs;
       ends = of_cr_lf;
       whole = ap₂ (λ (x y : ℕ). x ∷ (y ∷ bs)) (eqb-true b cr two.0) (eqb-true d lf two.1);
     }
-ends_by b d bs (inr e) (inr f) h = absurd (h (not_ended b (d ∷ bs) e f))
+ends_by b d bs (inr e) (inr f) n h = absurd (no_length _ n (not_ended b (d ∷ bs) e f) h)
 
--- where the ending's length is not 3 there is an ending
-pub ends_of : (behind : List ℕ) → (ending_at behind ≡ 3 → ⊥) → Ends behind
-ends_of [] h = record { end = []; rest = []; ends = of_text; whole = refl }
-ends_of (b ∷ []) h = ends_one b (true_or_false (eqb b lf)) h
-ends_of (b ∷ (d ∷ bs)) h = ends_by b d bs (true_or_false (eqb b lf)) (true_or_false (in_ending b (d ∷ bs))) h
+-- where a line ends there is an ending
+pub ends_of : (behind : List ℕ) (n : ℕ) → ending_at behind ≡ Some n → Ends behind
+ends_of [] n h = record { end = []; rest = []; ends = of_text; whole = refl }
+ends_of (b ∷ []) n h = ends_one b (true_or_false (eqb b lf)) n h
+ends_of (b ∷ (d ∷ bs)) n h = ends_by b d bs (true_or_false (eqb b lf)) (true_or_false (in_ending b (d ∷ bs))) n h

@@ -11,7 +11,7 @@ mod output;
 ghost use Rattle.std.specs.Prelude.{◌≤◌, length};
 
 use hex_rules::Converted;
-use input::{Asked, Input};
+use input::Asked;
 use memory_address::{Group, Module};
 use std::process::ExitCode;
 
@@ -54,10 +54,9 @@ fn convert_asked(rt: &HostRuntime, bytes: &[u8; ASKED], n: usize, m: Module, g: 
 // Converts what the first argument names, for these numbers.
 fn convert_file(rt: &HostRuntime, m: Module, g: Group) -> ExitCode {
     let mut bytes = [0u8; ASKED];
-    let input = input::read_text(rt, &mut bytes);
-    match input {
-        Input::Bytes(n) => convert_asked(rt, &bytes, n, m, g),
-        Input::Unread => ExitCode::SUCCESS,
+    match program_io::read_argument(rt, 1, &mut bytes) {
+        Some(n) => convert_asked(rt, &bytes, n, m, g),
+        None => ExitCode::SUCCESS,
     }
 }
 

@@ -2,16 +2,21 @@
 -- Assumes nothing.
 use mathlib.Core.Path.{◌≡◌, ◌∙◌, refl, sym, ap, ap₂}
 use mathlib.Core.Bool.{true, false}
-use mathlib.Core.List.{List, [], ◌++◌}
-use Prim.Native.Nat.{ℕ, zero, suc, ◌+◌, ◌-◌, ◌*◌, ◌≤◌, ◌<◌}
+use mathlib.Core.List.{List, [], ◌∷◌, ◌++◌}
+use Prim.Native.Nat.{ℕ, zero, suc, ◌+◌, ◌-◌, ◌*◌, ◌/◌, ◌≤◌, ◌<◌}
 use native.Mathlib.Omega.{arith}
-use native.Mathlib.Nat.{mul-le-mul_right}
-use lib.ListN.{length, take, drop, length-append}
+use Rattle.std.proofs.lemmas.Nat.{le-div, div_below}
+use Rattle.std.specs.Int.{to_be_bytes, w32}
+use lib.ListN.{length, get_or, take, drop, length-append, length-drop}
+use lib.Seq.{take_at, drop_at, drop-drop}
+use Rattle.std.specs.Slice.Iter.{chunks_exact_size, chunks_exact_rest}
+use Rattle.std.specs.declared.slice.ChunksExact.{ChunksExact}
 use Rattle.base.specs.Parts.{part, patch}
 use Rattle.base.specs.Internal.Putting.{put_at}
 use Rattle.base.proofs.Choice.{cond_true, cond_false, by_cond}
 use Rattle.base.proofs.Patched.{put_back, put_fits}
 use Rattle.recipe_item.proofs.Putting.{patch_patch, Sent, sent_start, sent_more, sent_end, sent_long}
+use Rattle.recipe.specs.Items.{address_bytes}
 use Rattle.hex_put.specs.Internal.Table.{some_marked, low_bytes, item_bytes, touched_bytes, printed_in}
 use Rattle.hex_put.proofs.Marking.{low_length}
 
@@ -23,6 +28,11 @@ item_put_lem o o₁ head places low at h l e q =
     put_back o₁ (at + 4) (length places) low (low_bytes places) q (low_length places)
     ∙ ap (λ (u : List ℕ). patch u (at + 4) (low_bytes places)) (e ∙ put_fits o at head (omega arith))
     ∙ patch_patch o head (low_bytes places) at (at + 4) (omega arith) (omega arith)
+
+-- an item's head: its kind and the lower three bytes of its address
+pub head_is : (kind a : ℕ) (bytes : List ℕ) → bytes ≡ to_be_bytes w32 a
+    → kind ∷ get_or bytes 1 0 ∷ get_or bytes 2 0 ∷ get_or bytes 3 0 ∷ [] ≡ kind ∷ address_bytes a
+head_is kind a bytes e = rw e
 
 -- what an item takes, by whether it is touched
 pub item_size : (kind a : ℕ) (places : List ℕ) → length (item_bytes kind a places) ≡ 4 + length places
@@ -75,11 +85,56 @@ same_sizes kind size table (suc n) k a b =
     ∙ ap₂ ◌+◌ (sym (same_size 0 b (part table k size)) ∙ same_size kind a (part table k size)) (same_sizes kind size table n (k + size) (a + size) (b + size))
     ∙ sym (length-append (touched_bytes kind a (part table k size)) (printed_in kind size table n (k + size) (a + size)))
 
--- an item that is one of n lies in the table
-pub item_inside : (k i n size index : ℕ) → i < n → index ≡ k + i * size → k + n * size ≤ 66560 → index + size ≤ 66560
-item_inside k i n size index l e h =
-    let more : (i + 1) * size ≤ n * size = mul-le-mul_right size (omega arith) in
-    omega arith
+-- the chunks of places, of which i came: the next stands behind them
+pub record Along (places : List ℕ) (size : ℕ) (items : ChunksExact ℕ) (i : ℕ) : Type 0 where
+  pub each : chunks_exact_size items ≡ size
+  pub rest : chunks_exact_rest items ≡ drop (i * size) places
+  pub within : i * size ≤ length places
+
+pub along_start : (places : List ℕ) (size : ℕ) (items : ChunksExact ℕ) → chunks_exact_size items ≡ size → chunks_exact_rest items ≡ places
+    → Along places size items 0
+along_start places size items e r =
+    let none : 0 * size ≡ 0 = omega arith in
+    record { each = e; rest = rw none r; within = omega arith }
+
+module _ (places : List ℕ) (size : ℕ) (items : ChunksExact ℕ) (i : ℕ) (h : Along places size items i) where
+  -- no whole chunk is left
+  pub along_end : 1 ≤ size → length (chunks_exact_rest items) < chunks_exact_size items → length places / size ≤ i
+  along_end some l =
+      let n : length places < (i + 1) * size = omega (arith, h.each, ap length h.rest, length-drop (i * size) places) in
+      let d = div_below (length places) size (i + 1) some n in
+      omega (arith, d)
+
+  -- the next chunk
+  module _ (next : ChunksExact ℕ) (item : List ℕ) (e : chunks_exact_size next ≡ chunks_exact_size items)
+      (r : chunks_exact_rest items ≡ item ++ chunks_exact_rest next) (l : length item ≡ chunks_exact_size items) where
+    there : drop (i * size) places ≡ item ++ chunks_exact_rest next
+    there = sym h.rest ∙ r
+
+    pub along_size : length item ≡ size
+    along_size = l ∙ h.each
+
+    pub along_item : item ≡ part places (i * size) size
+    along_item = sym (ap (take size) there ∙ take_at item (chunks_exact_rest next) size (along_size))
+
+    fits : i * size + size ≤ length places
+    fits = omega (arith, h.within, ap length there, length-append item (chunks_exact_rest next), length-drop (i * size) places, along_size)
+
+    pub along_more : 1 ≤ size → i < length places / size
+    along_more some = let m : (i + 1) * size ≤ length places = omega (arith, fits) in let d = le-div (i + 1) (length places) size some m in omega (arith, d)
+
+    pub along_next : (k : ℕ) → k ≡ i + 1 → Along places size next k
+    along_next k q =
+        let more : k * size ≡ i * size + size = omega (arith, ap (λ (x : ℕ). x * size) q) in
+        record {
+          each = e ∙ h.each;
+          rest =
+              sym (ap (λ (m : ℕ). drop m places) more
+              ∙ sym (drop-drop size (i * size) places)
+              ∙ ap (drop size) there
+              ∙ drop_at item (chunks_exact_rest next) size along_size);
+          within = omega (arith, more, fits);
+        }
 
 module _ (o : List ℕ) (at kind size : ℕ) (table : List ℕ) (n k a : ℕ) where
   -- i items are put, and the next goes to `to`

@@ -11,5 +11,5 @@ use Rattle.hex_put.proofs.put.Reads as put_reads
 
 pub put_tight : (κs : Lfts 2) (a : ArgsD put-signature κs) (r r' : ResD put-signature κs)
     (s s' : AtExit (ended_of 2 put-kinds.ps put-kinds.r) κs)
-    → put_reads.Post κs a r s → put_reads.Post κs a r' s' → (r ≡ r') × (s.1.1.1.0.now ≡ s'.1.1.1.0.now)
+    → put_reads.Post κs a r s → put_reads.Post κs a r' s' → (r ≡ r') × (s.1.1.0.now ≡ s'.1.1.0.now)
 put_tight κs a r r' s s' p q = (p.0 ∙ sym q.0, p.1 ∙ sym q.1)

@@ -1,19 +1,17 @@
 -- The recipe as a whole: its size, its four parts put one behind the other, and the answer by whether there is room.
 -- Assumes nothing.
-use mathlib.Core.Path.{◌≡◌, ◌∙◌, refl, sym, ap, ap₂}
-use mathlib.Core.Bool.{Bool, false, ◌&&◌}
+use mathlib.Core.Path.{◌≡◌, ◌∙◌, refl, ap}
 use mathlib.Core.List.{List, [], ◌∷◌, ◌++◌, append_assoc}
-use Prim.Native.Nat.{ℕ, ◌+◌, ◌≤◌, ◌<◌}
+use Prim.Native.Nat.{ℕ, ◌+◌, ◌/◌, ◌≤◌, ◌<◌}
 use native.Mathlib.Omega.{arith}
-use lib.Dec.{eqb, leb}
 use lib.ListN.{length, drop, length-append}
 use borrow.Author.Tests.{eq-eqb, ne_eqb, le-leb, lt-leb}
+use Rattle.std.specs.Prelude.{Some, None}
 use Rattle.base.specs.Parts.{patch}
 use Rattle.base.specs.Internal.Putting.{put_at}
-use Rattle.base.proofs.Choice.{cond_true, cond_false, true_both}
 use Rattle.base.proofs.Patched.{put_fits, length_patch}
 use Rattle.recipe_item.proofs.Putting.{patch_patch}
-use Rattle.hex_put.specs.Internal.Table.{printed_in, bytes_in, put_length, put_output, Inside}
+use Rattle.hex_put.specs.Internal.Table.{printed_in, bytes_in, put_length, put_output, Items}
 use Rattle.hex_put.proofs.Putting.{same_sizes}
 
 -- what is put from the first byte on
@@ -76,51 +74,57 @@ module _ (o : List ℕ) (h b r f : List ℕ) (room : length (h ++ (b ++ (r ++ f)
 
 -- ---- the recipe
 
-abbrev pub blocks : List ℕ → List ℕ
-blocks table = printed_in 0x02 64 table 1024 0 0x000000
+abbrev pub blocks_put : List ℕ → List ℕ
+blocks_put blocks = printed_in 0x02 64 blocks 1024 0 0x000000
 
-abbrev pub rows : List ℕ → List ℕ
-rows table = printed_in 0x03 8 table 128 65536 0xF00000
+abbrev pub rows_put : List ℕ → List ℕ
+rows_put rows = printed_in 0x03 8 rows 128 0 0xF00000
 
 -- its parts: Open, the blocks, the rows, Leave
-pub bytes_parts : (m g : ℕ) (table : List ℕ) → bytes_in m g table ≡ (0x01 ∷ m ∷ g ∷ []) ++ (blocks table ++ (rows table ++ (0x0F ∷ [])))
+pub bytes_parts : (m g : ℕ) (blocks rows : List ℕ)
+    → bytes_in m g blocks rows ≡ (0x01 ∷ m ∷ g ∷ []) ++ (blocks_put blocks ++ (rows_put rows ++ (0x0F ∷ [])))
 unfolding bytes_in
-bytes_parts m g table = refl
+bytes_parts m g blocks rows = refl
 
-pub bytes_size : (m g : ℕ) (table : List ℕ)
-    → length (bytes_in m g table) ≡ 4 + length (printed_in 0 64 table 1024 0 0) + length (printed_in 0 8 table 128 65536 0)
-bytes_size m g table =
-    omega (
+-- so many items lie in the places
+pub blocks_many : (blocks : List ℕ) → length blocks ≡ 65536 → length blocks / 64 ≡ 1024
+blocks_many blocks e = rw e
+
+pub rows_many : (rows : List ℕ) → length rows ≡ 1024 → length rows / 8 ≡ 128
+rows_many rows e = rw e
+
+pub blocks_items : (blocks : List ℕ) → length blocks ≡ 65536 → Items blocks 64
+blocks_items blocks e = record { some = omega arith; small = omega arith; few = omega arith }
+
+pub rows_items : (rows : List ℕ) → length rows ≡ 1024 → Items rows 8
+rows_items rows e = record { some = omega arith; small = omega arith; few = omega arith }
+
+pub bytes_size : (m g : ℕ) (blocks rows : List ℕ) → length blocks ≡ 65536 → length rows ≡ 1024
+    → length (bytes_in m g blocks rows)
+    ≡ 4 + length (printed_in 0 64 blocks (length blocks / 64) 0 0) + length (printed_in 0 8 rows (length rows / 8) 0 0)
+bytes_size m g blocks rows b r =
+    rw (blocks_many blocks b, rows_many rows r)
+    (omega (
       arith,
-      ap length (bytes_parts m g table),
-      length-append (0x01 ∷ m ∷ g ∷ []) (blocks table ++ (rows table ++ (0x0F ∷ []))),
-      length-append (blocks table) (rows table ++ (0x0F ∷ [])),
-      length-append (rows table) (0x0F ∷ []),
-      same_sizes 0x02 64 table 1024 0 0 0,
-      same_sizes 0x03 8 table 128 65536 0xF00000 0,
-    )
-
-pub blocks_inside : (table : List ℕ) → length table ≡ 66560 → Inside table 0 1024 64
-blocks_inside table e = record { places = e; within = omega arith; few = omega arith; small = omega arith }
-
-pub rows_inside : (table : List ℕ) → length table ≡ 66560 → Inside table 65536 128 8
-rows_inside table e = record { places = e; within = omega arith; few = omega arith; small = omega arith }
+      ap length (bytes_parts m g blocks rows),
+      length-append (0x01 ∷ m ∷ g ∷ []) (blocks_put blocks ++ (rows_put rows ++ (0x0F ∷ []))),
+      length-append (blocks_put blocks) (rows_put rows ++ (0x0F ∷ [])),
+      length-append (rows_put rows) (0x0F ∷ []),
+      same_sizes 0x02 64 blocks 1024 0 0 0,
+      same_sizes 0x03 8 rows 128 0 0xF00000 0,
+    ))
 
 -- ---- the answer
 
 module _ (bytes : List ℕ) (places : ℕ) (output : List ℕ) where
-  pub not_put : (eqb places 66560 && leb (length bytes) (length output)) ≡ false
-      → (0 ≡ put_length bytes places (length output)) × (output ≡ put_output bytes places output)
-  not_put f = (sym (cond_false _ _ _ f), sym (cond_false _ _ _ f))
+  pub no_table : (places ≡ 66560 → ⊥) → (None ≡ put_length bytes places (length output)) × (output ≡ put_output bytes places output)
+  no_table n = simp (ne_eqb places 66560 n) (refl, refl)
 
-  pub no_table : (places ≡ 66560 → ⊥) → (eqb places 66560 && leb (length bytes) (length output)) ≡ false
-  no_table n = ap (λ (b : Bool). b && leb (length bytes) (length output)) (ne_eqb places 66560 n)
+  module _ (e : places ≡ 66560) where
+    pub no_room : length output < length bytes → (None ≡ put_length bytes places (length output)) × (output ≡ put_output bytes places output)
+    no_room l = simp (eq-eqb places 66560 e, lt-leb (length bytes) (length output) l) (refl, refl)
 
-  pub no_room : places ≡ 66560 → length output < length bytes → (eqb places 66560 && leb (length bytes) (length output)) ≡ false
-  no_room e l = ap₂ ◌&&◌ (eq-eqb places 66560 e) (lt-leb (length bytes) (length output) l)
-
-  pub is_put : places ≡ 66560 → length bytes ≤ length output → (o : List ℕ) → o ≡ patch output 0 bytes
-      → (length bytes ≡ put_length bytes places (length output)) × (o ≡ put_output bytes places output)
-  is_put e l o q =
-      let t = true_both _ _ (eq-eqb places 66560 e) (le-leb (length bytes) (length output) l) in
-      (sym (cond_true _ _ _ t), q ∙ front output bytes ∙ sym (cond_true _ _ _ t))
+    pub is_put : (size : ℕ) → size ≡ length bytes → length bytes ≤ length output → (o : List ℕ) → o ≡ patch output 0 bytes
+        → (Some size ≡ put_length bytes places (length output)) × (o ≡ put_output bytes places output)
+    is_put size s l o q =
+        simp (eq-eqb places 66560 e, le-leb (length bytes) (length output) l) (ap Some s, q ∙ front output bytes)

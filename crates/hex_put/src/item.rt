@@ -1,27 +1,15 @@
 // One item: whether a place of it is marked, and its bytes.
-ghost use Rattle.std.specs.Prelude.{◌||◌, ◌≡◌, ltb, ◌+◌, ◌≤◌, length};
+ghost use Rattle.std.specs.Prelude.{◌≡◌, ◌+◌, ◌≤◌, length};
 ghost use Rattle.base.specs.Parts.{patch};
 ghost use Rattle.hex_put.specs.Internal.Table.{some_marked, low_bytes, item_bytes, touched_bytes};
 
-// Whether a place before was marked, or this one is.
-fn or_marked(before: bool, place: u16) -> bool
-    ensures { result ≡ (before || ltb 255 place) }
-{
-    if before {
-        return true;
-    }
-    place > 255
-}
-
-// Whether one of these places is marked. All are looked at: so the compiler takes several at once.
+// Whether one of these places is marked. All are looked at, so the compiler takes several at once: `any` would stop at the first.
 fn is_touched(places: &[u16]) -> bool
     ensures { result ≡ some_marked places.now }
 {
     let mut marked = false;
-    let mut i: usize = 0;
-    while i < places.len() {
-        marked = or_marked(marked, places[i]);
-        i += 1;
+    for place in places {
+        marked |= *place > 255;
     }
     marked
 }
@@ -31,10 +19,8 @@ fn put_low(places: &[u16], output: &mut [u8])
     requires { length output.old ≡ length places.now }
     ensures { output.new ≡ low_bytes places.now }
 {
-    let mut i: usize = 0;
-    while i < places.len() {
-        output[i] = (places[i] % 256) as u8;
-        i += 1;
+    for (i, place) in places.iter().enumerate() {
+        output[i] = (*place % 256) as u8;
     }
 }
 
@@ -43,13 +29,8 @@ fn put_item(kind: u8, address: u32, places: &[u16], output: &mut [u8], at: usize
     requires { at + (4 + length places.now) ≤ length output.old }
     ensures { output.new ≡ patch output.old at (item_bytes kind address places.now) }
 {
-    let head = [
-        kind,
-        (address / 65536 % 256) as u8,
-        (address / 256 % 256) as u8,
-        (address % 256) as u8,
-    ];
-    base::put(output, at, &head);
+    let [_, upper, high, low] = address.to_be_bytes();
+    base::put(output, at, &[kind, upper, high, low]);
     let from = at + 4;
     let end = from + places.len();
     put_low(places, &mut output[from..end]);

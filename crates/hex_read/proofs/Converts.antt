@@ -1,34 +1,24 @@
 -- The answer and the output by what reading and putting came to: a refusal of the text, no room, or the recipe.
 -- Assumes nothing.
-use mathlib.Core.Path.{◌≡◌, ◌∙◌, sym, ap, ap₂, subst}
+use mathlib.Core.Path.{◌≡◌, ◌∙◌, sym, ap, ap₂}
 use mathlib.Core.Bool.{Bool, true, false, ◌&&◌, cond}
 use mathlib.Core.List.{List, ◌++◌}
 use mathlib.Core.Logic.{◌⊎◌, inl, inr, ⊎_elim}
 use Prim.Native.Nat.{ℕ, ◌≤◌, ◌<◌}
-use native.Mathlib.Omega.{arith}
 use lib.Dec.{eqb, leb, ltb}
 use lib.ListN.{length, drop}
 use borrow.Author.Tests.{eq-eqb, le-leb, lt-leb, lt-ltb, le-ltb, leb-true, leb-false}
+use Rattle.std.specs.Prelude.{Option, Some, None}
+use Rattle.std.specs.Option.{ok_or}
 use Rattle.base.proofs.Choice.{cond_true, cond_false, true_or_false, true_both}
-use Rattle.hex_rules.specs.declared.Converted.{Converted}
-use Rattle.hex_rules.specs.declared.Converted.TheVariants.{Made, Refused}
+use Rattle.hex_rules.specs.declared.Fault.TheVariants.{NoRoom}
+use Rattle.hex_rules.specs.Refusing.{Converted, Made, Refused, in_numbers}
 use Rattle.hex_rules.specs.Cells.{Cell}
 use Rattle.hex_rules.specs.Checks.{Read, gives, refused}
 use Rattle.hex_rules.specs.Converting.{text_read, bytes_of, answered, converted, output_by, converted_output}
-use Rattle.hex_rules.proofs.MadeLegal.{printed_size}
-use Rattle.hex_put.specs.Internal.Table.{bytes_in, put_length, put_output}
-use Rattle.hex_read.specs.declared.Outcome.{Outcome}
-use Rattle.hex_read.specs.declared.Outcome.TheVariants as Out
-use Rattle.hex_read.specs.Internal.Reads.{Marked, Reads}
+use Rattle.hex_put.specs.Internal.Table.{table_bytes, put_length, put_output}
+use Rattle.hex_read.specs.Internal.Reads.{Marked}
 use Rattle.hex_read.proofs.Emitting.{bytes_emitted}
-
--- what is known of an outcome, by what it is
-pub reads_refused : (o : Outcome) (number line : ℕ) (text table : List ℕ) → o ≡ Out.Refused number line → Reads o text table
-    → text_read text ≡ refused number line
-reads_refused o number line text table e r = subst (λ (x : Outcome). Reads x text table) e r
-
-pub reads_taken : (o : Outcome) (text table : List ℕ) → o ≡ Out.Taken → Reads o text table → Marked text table
-reads_taken o text table e r = subst (λ (x : Outcome). Reads x text table) e r
 
 module _ (text : List ℕ) (m g : ℕ) (output : List ℕ) where
   -- the answer and the output of a text that is read so
@@ -65,23 +55,19 @@ module _ (text : List ℕ) (m g : ℕ) (output : List ℕ) where
         (sym (b.0 ∙ a), sym (b.1 ∙ ap (λ (c : Converted). output_by c (gives cells) m g output) a))
 
   -- what is put of a table that marks a text's cells
-  module _ (table : List ℕ) (k : Marked text table) (size : ℕ) (o : List ℕ)
-      (q : size ≡ put_length (bytes_in m g table) (length table) (length output))
-      (p : o ≡ put_output (bytes_in m g table) (length table) output) where
+  module _ (table : List ℕ) (k : Marked text table) (size : Option ℕ) (o : List ℕ)
+      (q : size ≡ put_length (table_bytes m g table) (length table) (length output))
+      (p : o ≡ put_output (table_bytes m g table) (length table) output) where
     abbrev bytes : List ℕ
     bytes = bytes_of m g k.cells
 
-    same : bytes_in m g table ≡ bytes
+    same : table_bytes m g table ≡ bytes
     same = bytes_emitted k.cells table k.marks m g
-
-    -- the recipe is never empty
-    some : 1 ≤ length bytes
-    some = omega (arith, printed_size m g k.cells)
 
     fits : Bool
     fits = eqb (length table) 66560 && leb (length bytes) (length output)
 
-    put_size : size ≡ cond fits (length bytes) 0
+    put_size : size ≡ cond fits (Some (length bytes)) None
     unfolding fits
     put_size = q ∙ ap (λ (l : List ℕ). put_length l (length table) (length output)) same
 
@@ -103,22 +89,17 @@ module _ (text : List ℕ) (m g : ℕ) (output : List ℕ) where
         (λ (f : leb (length bytes) (length output) ≡ false). inr (leb-false (length bytes) (length output) f))
         (true_or_false (leb (length bytes) (length output)))
 
-    pub put_none : size ≡ 0 → (Refused 26 0 ≡ converted text m g (length output)) × (o ≡ converted_output text m g output)
-    put_none z =
-        ⊎_elim
-        (λ (l : length bytes ≤ length output).
-        absurd (let x : length bytes ≡ 0 = sym (cond_true fits (length bytes) 0 (fits_if l)) ∙ sym put_size ∙ z in omega (arith, some)))
-        (λ (l : length output < length bytes).
-        let r = no_room k.cells k.read l in
-        (r.0, put_out ∙ cond_false fits _ output (fits_not l) ∙ r.1))
-        room_or_not
-
-    pub put_made : (size ≡ 0 → ⊥) → (Made size ≡ converted text m g (length output)) × (o ≡ converted_output text m g output)
-    put_made n =
+    -- the answer, and the output after it
+    pub put_answer : (in_numbers (ok_or size (record { fault = NoRoom; line = 0 })) ≡ converted text m g (length output))
+        × (o ≡ converted_output text m g output)
+    put_answer =
         ⊎_elim
         (λ (l : length bytes ≤ length output).
         let r = made k.cells k.read l in
-        let x : size ≡ length bytes = put_size ∙ cond_true fits (length bytes) 0 (fits_if l) in
-        (ap Made x ∙ r.0, put_out ∙ cond_true fits _ output (fits_if l) ∙ r.1))
-        (λ (l : length output < length bytes). absurd (n (put_size ∙ cond_false fits (length bytes) 0 (fits_not l))))
+        let x : size ≡ Some (length bytes) = put_size ∙ cond_true fits (Some (length bytes)) None (fits_if l) in
+        (ap (λ (s : Option ℕ). in_numbers (ok_or s (record { fault = NoRoom; line = 0 }))) x ∙ r.0, put_out ∙ cond_true fits _ output (fits_if l) ∙ r.1))
+        (λ (l : length output < length bytes).
+        let r = no_room k.cells k.read l in
+        let x : size ≡ None = put_size ∙ cond_false fits (Some (length bytes)) None (fits_not l) in
+        (ap (λ (s : Option ℕ). in_numbers (ok_or s (record { fault = NoRoom; line = 0 }))) x ∙ r.0, put_out ∙ cond_false fits _ output (fits_not l) ∙ r.1))
         room_or_not

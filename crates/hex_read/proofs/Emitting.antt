@@ -5,11 +5,13 @@
 use mathlib.Core.Path.{◌≡◌, ◌∙◌, refl, sym, ap, ap₂}
 use mathlib.Core.Bool.{Bool, true, false, ◌||◌, cond}
 use mathlib.Core.List.{List, [], ◌∷◌, ◌++◌, append-nil, append_assoc}
-use Prim.Native.Nat.{ℕ, zero, suc, ◌+◌, ◌*◌, ◌%◌, ◌≤◌, ◌<◌}
+use Prim.Native.Nat.{ℕ, zero, suc, ◌+◌, ◌-◌, ◌*◌, ◌%◌, ◌≤◌, ◌<◌}
 use native.Mathlib.Nat.{add-mod_left, mod-eq_of_lt}
 use native.Mathlib.Omega.{arith}
 use lib.Dec.{ltb}
-use lib.ListN.{get_or}
+use lib.ListN.{get_or, take, drop}
+use lib.Seq.{drop-drop, take-take}
+use Rattle.std.proofs.lemmas.List.{drop-take}
 use borrow.Author.Tests.{lt-ltb, le-ltb}
 use Rattle.base.specs.Parts.{part, listed}
 use Rattle.base.proofs.Choice.{cond_true, cond_false}
@@ -20,8 +22,8 @@ use Rattle.hex_rules.specs.Recipe.{contents, item_at, upward, items_of, recipe_o
 use Rattle.hex_rules.specs.Converting.{bytes_of}
 use Rattle.recipe.proofs.Printing.{printed_both}
 use Rattle.hex_rules.proofs.EachItem.{blocks_of, rows_of}
-use Rattle.hex_put.specs.Internal.Table.{some_marked, low_bytes, touched_bytes, printed_in, bytes_in}
-use Rattle.hex_put.proofs.Whole.{blocks, rows}
+use Rattle.hex_put.specs.Internal.Table.{some_marked, low_bytes, touched_bytes, printed_in, bytes_in, table_bytes}
+use Rattle.hex_put.proofs.Whole.{blocks_put, rows_put}
 use Rattle.hex_read.specs.Internal.Marks.{Marks, place_of, entry_of}
 use Rattle.hex_rules.proofs.CellByCell.{touched_next, touched_none, byte_not_given}
 
@@ -68,6 +70,31 @@ printed_choice : (b : Bool) (i : Item) → printed_items (cond b (i ∷ []) []) 
 unfolding printed_items
 printed_choice true i = append-nil (printed_item i)
 printed_choice false i = refl
+
+-- the items of a table's front, and of its rest, are those of the table
+part_front : (m k size : ℕ) (table : List ℕ) → k + size ≤ m → part (take m table) k size ≡ part table k size
+part_front m k size table h =
+    let all : k + (size + (m - (k + size))) ≡ m = omega arith in
+    ap (λ (n : ℕ). take size (drop k (take n table))) (sym all)
+    ∙ ap (take size) (drop-take k (size + (m - (k + size))) table)
+    ∙ take-take size (size + (m - (k + size))) (drop k table) (omega arith)
+
+printed_front : (kind size m : ℕ) (table : List ℕ) (n k a : ℕ) → k + n * size ≤ m
+    → printed_in kind size (take m table) n k a ≡ printed_in kind size table n k a
+unfolding printed_in
+printed_front kind size m table zero k a h = refl
+printed_front kind size m table (suc n) k a h =
+    let more : suc n * size ≡ size + n * size = omega arith in
+    ap₂ (λ (p rest : List ℕ). touched_bytes kind a p ++ rest) (part_front m k size table (omega arith))
+    (printed_front kind size m table n (k + size) (a + size) (omega arith))
+
+printed_rest : (kind size m : ℕ) (table : List ℕ) (n k a : ℕ) → printed_in kind size (drop m table) n k a ≡ printed_in kind size table n (m + k) a
+unfolding printed_in
+printed_rest kind size m table zero k a = refl
+printed_rest kind size m table (suc n) k a =
+    let next : m + (k + size) ≡ m + k + size = omega arith in
+    ap₂ (λ (p rest : List ℕ). touched_bytes kind a p ++ rest) (ap (take size) (drop-drop k m table))
+    (printed_rest kind size m table n (k + size) (a + size) ∙ ap (λ (j : ℕ). printed_in kind size table n j (a + size)) next)
 
 module _ (cells : List Cell) (table : List ℕ) (marks : Marks cells table) where
   -- ---- a part of the table
@@ -135,22 +162,24 @@ module _ (cells : List Cell) (table : List ℕ) (marks : Marks cells table) wher
   -- ---- the recipe
 
   -- the blocks of FLASH, whose index is its place
-  blocks_emitted : blocks table ≡ printed_items (blocks_of cells)
+  blocks_emitted : blocks_put (take 65536 table) ≡ printed_items (blocks_of cells)
   blocks_emitted =
-      items_emitted 0x02 block (λ a ds. refl) 64 1024 0 0x000000 (omega arith)
+      printed_front 0x02 64 65536 table 1024 0 0x000000 (omega arith)
+      ∙ items_emitted 0x02 block (λ a ds. refl) 64 1024 0 0x000000 (omega arith)
       (λ j l. cond_true (ltb (0 + j) 65536) _ _ (lt-ltb (0 + j) 65536 (omega arith)))
 
   -- and the rows of EEPROM, behind them
-  rows_emitted : rows table ≡ printed_items (rows_of cells)
+  rows_emitted : rows_put (drop 65536 table) ≡ printed_items (rows_of cells)
   rows_emitted =
-      items_emitted 0x03 row (λ a ds. refl) 8 128 65536 0xF00000 (omega arith)
+      printed_rest 0x03 8 65536 table 128 0 0xF00000
+      ∙ items_emitted 0x03 row (λ a ds. refl) 8 128 65536 0xF00000 (omega arith)
       (λ j l. cond_false (ltb (65536 + j) 65536) _ _ (le-ltb (65536 + j) 65536 (omega arith)) ∙ omega arith)
 
   -- the bytes of the table's recipe are those of the cells' recipe
-  pub bytes_emitted : (m g : ℕ) → bytes_in m g table ≡ bytes_of m g cells
+  pub bytes_emitted : (m g : ℕ) → table_bytes m g table ≡ bytes_of m g cells
   unfolding bytes_in bytes_of printed recipe_of items_of
   bytes_emitted m g =
       ap (λ (t : List ℕ). 0x01 ∷ m ∷ g ∷ t)
-      (sym (append_assoc (blocks table) (rows table) (0x0F ∷ []))
+      (sym (append_assoc (blocks_put (take 65536 table)) (rows_put (drop 65536 table)) (0x0F ∷ []))
       ∙ ap (λ (t : List ℕ). t ++ (0x0F ∷ []))
       (ap₂ ◌++◌ blocks_emitted rows_emitted ∙ sym (printed_both (blocks_of cells) (rows_of cells))))

@@ -1,5 +1,5 @@
+pub mod Answering
 pub mod Storing
-pub mod Emitting
 pub mod Area
 pub mod CellsFrom
 pub mod Marking
@@ -7,6 +7,7 @@ pub mod GivenBytes
 pub mod Faults
 pub mod Filled
 pub mod Judged
+pub mod Emitting
 pub mod Walking
 pub mod Converts
 pub mod Tight

@@ -7,6 +7,7 @@ use Prim.Native.Nat.{ℕ, suc, ◌+◌, ◌-◌, ◌≤◌, ◌<◌}
 use native.Mathlib.Omega.{arith}
 use lib.Dec.{eqb}
 use lib.ListN.{length, get_or, drop, replicate, drop_of_length-le}
+use Rattle.std.specs.Prelude.{Some, None}
 use Rattle.hex_rules.specs.Text.{lines_of}
 use Rattle.hex_rules.specs.Record.{record_of, type_of}
 use Rattle.hex_rules.specs.Checks.{Given, nothing, gives, refused, fault_at, with_record, at_the_end, lines_read}
@@ -29,7 +30,6 @@ pub record Kept (text table : List ℕ) (at number upper : ℕ) (ended : Bool) :
   pub marks : Marks given.cells table
   pub within : at ≤ length text
   pub few : number ≤ at + 1
-  pub small : upper < 65536
 
 pub kept_start : (text table : List ℕ) → table ≡ replicate 66560 255 → Kept text table 0 1 0 false
 unfolding text_read
@@ -41,7 +41,6 @@ kept_start text table e = record {
   marks = subst (Marks []) (sym e) marks_none;
   within = omega arith;
   few = omega arith;
-  small = omega arith;
 }
 
 module _ (text table : List ℕ) (at number upper : ℕ) (ended : Bool) (k : Kept text table at number upper ended) where
@@ -65,7 +64,7 @@ module _ (text table : List ℕ) (at number upper : ℕ) (ended : Bool) (k : Kep
 
   module _ (h : at < length text) where
     -- a line that is no record in form
-    pub kept_bad : (line_at text at).good ≡ false → text_read text ≡ refused 30 number
+    pub kept_bad : line_at text at ≡ None → text_read text ≡ refused 30 number
     kept_bad e =
         let b = line_bad text at h e in
         let n = fault_30 k.given b.line b.bad in
@@ -74,44 +73,44 @@ module _ (text table : List ℕ) (at number upper : ℕ) (ended : Bool) (k : Kep
         ∙ read_fault k.given b.line b.others number (λ z. absurd (let q : ◌≡◌ {A = ℕ} 30 0 = sym n ∙ z in omega arith))
         ∙ ap (λ (x : ℕ). refused x number) n
 
-    module _ (e : (line_at text at).good ≡ true) where
-      abbrev good : GoodLine text at
-      good = line_good text at h e
+    module _ (line : Line) (e : line_at text at ≡ Some line) where
+      abbrev good : GoodLine text at line
+      good = line_good text at h line e
 
       abbrev fill : ℕ
       fill = 260 - length (record_of good.line)
 
       -- the number is that of the line
-      number_right : (n : ℕ) → n ≡ record_fault (line_at text at).bytes upper ended table → n ≡ fault_at k.given good.line
+      number_right : (n : ℕ) → n ≡ record_fault line.bytes upper ended table → n ≡ fault_at k.given good.line
       number_right n q =
           q
           ∙ ap (λ (b : List ℕ). record_fault b upper ended table) good.bytes
           ∙ judged k.given good.line table good.formed good.size good.few good.each k.marks fill upper ended k.half
           k.end
 
-      here : text_read text ≡ lines_read (good.line ∷ lines_of (drop (line_at text at).next text)) number k.given
+      here : text_read text ≡ lines_read (good.line ∷ lines_of (drop line.next text)) number k.given
       here = k.rest ∙ ap (λ (ls : List (List ℕ)). lines_read ls number k.given) good.lines
 
-      pub kept_fault : (n : ℕ) → n ≡ record_fault (line_at text at).bytes upper ended table → (n ≡ 0 → ⊥) → text_read text ≡ refused n number
+      pub kept_fault : (n : ℕ) → n ≡ record_fault line.bytes upper ended table → (n ≡ 0 → ⊥) → text_read text ≡ refused n number
       kept_fault n q z =
           here
-          ∙ read_fault k.given good.line (lines_of (drop (line_at text at).next text)) number (λ x. z (number_right n q ∙ x))
+          ∙ read_fault k.given good.line (lines_of (drop line.next text)) number (λ x. z (number_right n q ∙ x))
           ∙ ap (λ (x : ℕ). refused x number) (sym (number_right n q))
 
-      pub kept_next : (n : ℕ) → n ≡ record_fault (line_at text at).bytes upper ended table → n ≡ 0
-          → (t : List ℕ) → t ≡ record_table (line_at text at).bytes upper table
-          → (u : ℕ) → u ≡ upper_behind upper (line_at text at).bytes → u < 65536
-          → (b : Bool) → b ≡ eqb (get_or (line_at text at).bytes 3 0) 0x01
-          → Kept text t (line_at text at).next (number + 1) u b
-      kept_next n q z t p u v s b w =
+      pub kept_next : (n : ℕ) → n ≡ record_fault line.bytes upper ended table → n ≡ 0
+          → (t : List ℕ) → t ≡ record_table line.bytes upper table
+          → (u : ℕ) → u ≡ upper_behind upper line.bytes
+          → (b : Bool) → b ≡ eqb (get_or line.bytes 3 0) 0x01
+          → Kept text t line.next (number + 1) u b
+      kept_next n q z t p u v b w =
           let ok : fault_at k.given good.line ≡ 0 = sym (number_right n q) ∙ z in
           record {
             given = with_record k.given (record_of good.line);
             rest =
                 here
-                ∙ read_on k.given good.line (lines_of (drop (line_at text at).next text)) number ok
+                ∙ read_on k.given good.line (lines_of (drop line.next text)) number ok
                 ∙ ap (λ (x : ℕ).
-                lines_read (lines_of (drop (line_at text at).next text)) x (with_record k.given (record_of good.line)))
+                lines_read (lines_of (drop line.next text)) x (with_record k.given (record_of good.line)))
                 (let more : suc number ≡ number + 1 = omega arith in more);
             half =
                 v
@@ -129,26 +128,8 @@ module _ (text table : List ℕ) (at number upper : ℕ) (ended : Bool) (k : Kep
                 k.half);
             within = good.within;
             few = omega (arith, k.few, good.further);
-            small = s;
           }
 
       -- each line comes nearer to the end
-      pub nearer : length text - (line_at text at).next < length text - at
+      pub nearer : length text - line.next < length text - at
       nearer = omega (arith, good.further, good.within)
-
-    -- the same of a line that is known to be this one
-    pub kept_line : (line : Line) → line ≡ line_at text at → line.good ≡ true
-        → (n : ℕ) → n ≡ record_fault line.bytes upper ended table → n ≡ 0
-        → (t : List ℕ) → t ≡ record_table line.bytes upper table
-        → (u : ℕ) → u ≡ upper_behind upper line.bytes → u < 65536
-        → (b : Bool) → b ≡ eqb (get_or line.bytes 3 0) 0x01
-        → Kept text t line.next (number + 1) u b
-    kept_line line e =
-        subst (λ (x : Line).
-        x.good ≡ true
-        → (n : ℕ) → n ≡ record_fault x.bytes upper ended table → n ≡ 0
-        → (t : List ℕ) → t ≡ record_table x.bytes upper table
-        → (u : ℕ) → u ≡ upper_behind upper x.bytes → u < 65536
-        → (b : Bool) → b ≡ eqb (get_or x.bytes 3 0) 0x01
-        → Kept text t x.next (number + 1) u b)
-        (sym e) kept_next

@@ -13,3 +13,4 @@ pub mod Once
 pub mod Upward
 pub mod Deciding
 pub mod Examples
+pub mod Numbered

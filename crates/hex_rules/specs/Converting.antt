@@ -2,8 +2,7 @@
 -- untouched".
 use Rattle.std.specs.Prelude.{ℕ, cond, List, ◌++◌, ltb, length, drop}
 use Rattle.recipe.specs.Items.{printed}
-use Rattle.hex_rules.specs.declared.Converted.{Converted}
-use Rattle.hex_rules.specs.declared.Converted.TheVariants.{Made, Refused}
+use Rattle.hex_rules.specs.Refusing.{Converted, Made, Refused}
 use Rattle.hex_rules.specs.Text.{lines_of}
 use Rattle.hex_rules.specs.Cells.{Cell}
 use Rattle.hex_rules.specs.Checks.{Read, gives, refused, nothing, lines_read}

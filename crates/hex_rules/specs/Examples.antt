@@ -4,7 +4,7 @@ use Rattle.hex_rules.specs.Text.{cr, lf}
 use Rattle.hex_rules.specs.Record.{colon}
 use Rattle.hex_rules.specs.Cells.{Cell}
 use Rattle.hex_rules.specs.Checks.{Read, gives, refused}
-use Rattle.hex_rules.specs.declared.Converted.TheVariants.{Made, Refused}
+use Rattle.hex_rules.specs.Refusing.{Made, Refused}
 use Rattle.hex_rules.specs.Converting.{text_read, converted, converted_output}
 use Rattle.hex_rules.specs.Printing.{Run, pairs, unsummed, line_of, run_lines, text_of, printed_runs}
 

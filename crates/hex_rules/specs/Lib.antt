@@ -3,6 +3,7 @@ pub mod Record
 pub mod Cells
 pub mod Checks
 pub mod Recipe
+pub mod Refusing
 pub mod Converting
 pub mod Printing
 pub mod Holding

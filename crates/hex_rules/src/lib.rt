@@ -1,10 +1,42 @@
-// Intel HEX read: what a text of records gives, which number and line refuse it, and the recipe of the cells given. Definitions and laws;
+// Intel HEX read: what a text of records gives, what refuses it and at which line, and the recipe of the cells given. Definitions and laws;
 // the code that reads is in the crate hex_read.
 #![tactic(auto)]
 
-// What becomes of a text: the length of the recipe that was made, in bytes, or the refusal's number and the line it names.
-#[derive(Clone, Copy)]
-pub enum Converted {
-    Made(usize),
-    Refused { number: u8, line: usize },
+ghost use Rattle.std.specs.Prelude.{◌≡◌};
+ghost use Rattle.hex_rules.specs.Refusing.{fault_number};
+
+// What refuses a text: the first check that a line fails, a text whose end record is missing or early, or an output that is too short.
+#[derive(Clone, Copy, PartialEq, Eq)]
+pub enum Fault {
+    BadForm,
+    BadSum,
+    OtherType,
+    CellOutside,
+    CellTwice,
+    WrongEnd,
+    NoRoom,
+}
+
+impl Fault {
+    // Its number in document 02.
+    pub fn number(self) -> u8
+        ensures { result ≡ fault_number self }
+    {
+        match self {
+            Fault::BadForm => 30,
+            Fault::BadSum => 31,
+            Fault::OtherType => 32,
+            Fault::CellOutside => 33,
+            Fault::CellTwice => 34,
+            Fault::WrongEnd => 35,
+            Fault::NoRoom => 26,
+        }
+    }
+}
+
+// A refusal of a text: what is wrong, and the line; an output that is too short names line 0.
+#[derive(Clone, Copy, PartialEq, Eq)]
+pub struct Refusal {
+    pub fault: Fault,
+    pub line: usize,
 }

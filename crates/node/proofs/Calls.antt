@@ -14,8 +14,7 @@ use Rattle.node_rules.specs.Restart.{restart_step}
 use Rattle.node_rules.specs.Step.{Step, after, can_step}
 use Rattle.node_rules.specs.Uart.{UartStep, uart_after, uart_step}
 use Rattle.node_rules.specs.Runs.{State, end_of, behind_frame, frames_in, behind_byte, bytes_in}
-use Rattle.node_piece_rules.specs.declared.PieceAnswer.{PieceAnswer}
-use Rattle.node_piece_rules.specs.Piece.{piece_after, piece_step}
+use Rattle.node_piece_rules.specs.Piece.{PieceAnswer, piece_after, piece_step}
 use Rattle.node.specs.Calls.{Fresh, Restart, RestartWith, CanFrame, UartByte, UartPiece, call, CanFrames, UartBytes, none, more}
 
 pub fresh_said : {six : List ℕ} {n : Node} → Fresh six n → n ≡ fresh_node six

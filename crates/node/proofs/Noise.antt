@@ -28,8 +28,7 @@ use Rattle.node_rules.specs.Reading.{StaysOf}
 use Rattle.node_rules.proofs.Numbers.{can_never_ten}
 use Rattle.node_rules.proofs.Eleven.{eleven_leaves, eleven_stays}
 use Rattle.node_rules.proofs.Stray.{nothing_lost}
-use Rattle.node_piece_rules.specs.declared.PieceAnswer.{PieceAnswer}
-use Rattle.node_piece_rules.specs.Piece.{PieceStep, node_before, but_tens, taken_in_all, lasts_of, NoneRefused}
+use Rattle.node_piece_rules.specs.Piece.{PieceAnswer, PieceStep, node_before, but_tens, taken_in_all, lasts_of, NoneRefused}
 use Rattle.node_piece_rules.proofs.Cutting.{tens_append}
 use Rattle.node_piece_rules.proofs.Answering.{piece_some}
 use Rattle.node.proofs.Calls.{fresh_said, can_frame_said, uart_byte_said, uart_piece_said, bytes_said}

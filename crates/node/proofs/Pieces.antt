@@ -19,8 +19,7 @@ use Rattle.node_rules.specs.Outcomes.{is_deaf}
 use Rattle.node_rules.specs.Uart.{UartStep, uart_after, uart_step, silent_on_uart}
 use Rattle.node_rules.specs.Runs.{state, bytes_in, AllTen}
 use Rattle.node_rules.specs.Others.{ButBootfl, ForOthers, LeftByOthersOnUart}
-use Rattle.node_piece_rules.specs.declared.PieceAnswer.{PieceAnswer}
-use Rattle.node_piece_rules.specs.Piece.{PieceStep, piece_after, takes_none, no_byte, piece_step, node_before, frame_at}
+use Rattle.node_piece_rules.specs.Piece.{PieceAnswer, PieceStep, piece_after, takes_none, no_byte, piece_step, node_before, frame_at}
 use Rattle.node_piece_rules.proofs.Opening.{no_byte_number, opens}
 use Rattle.node_piece_rules.proofs.Answering.{piece_none, piece_some, piece_refused, open_takes_one, open_empty}
 use Rattle.node_piece_rules.proofs.Spoiling.{piece_silent, piece_protected, piece_lengths, piece_tidy, piece_stays, piece_normal_spares, piece_deaf, piece_normal, piece_programming, piece_others}

@@ -12,8 +12,7 @@ use Rattle.node_rules.specs.Numbered.{Answer, UartAnswer, Restarted}
 use Rattle.node_rules.specs.Step.{Step, after}
 use Rattle.node_rules.specs.Uart.{UartStep, uart_after}
 use Rattle.node_rules.specs.Runs.{State, state}
-use Rattle.node_piece_rules.specs.declared.PieceAnswer.{PieceAnswer}
-use Rattle.node_piece_rules.specs.Piece.{PieceStep, piece_after}
+use Rattle.node_piece_rules.specs.Piece.{PieceAnswer, PieceStep, piece_after}
 use Rattle.node_restart.specs.contracts.fresh as fresh
 use Rattle.node_restart.proofs.fresh.Kinds as fresh-kinds
 use Rattle.node_restart.proofs.fresh.Reads as fresh-reads

@@ -4,50 +4,45 @@
 mod request;
 
 ghost use Rattle.std.specs.Prelude.{◌≡◌};
-ghost use Rattle.node_rules.specs.Requests.{asked_by};
-ghost use Rattle.node_rules.specs.Outcomes.{unless, type_outcomes, decided};
+ghost use Rattle.frame_rules.specs.Frame.{type_of};
+ghost use Rattle.node_rules.specs.Requests.{found};
+ghost use Rattle.node_rules.specs.Outcomes.{unless, type_outcomes, asked_of, decided};
+ghost use Rattle.node_rules.specs.InNumbers.{effect_in_numbers};
 
-use node_rules::{Effect, Kind, Node};
+use node_rules::{Deed, Node, Refusal};
 
-// What a frame of a type that is in the table comes to: 6 and 7, then its request. A refusal leaves all as it is, but 8 nothing staged.
-fn accepted(k: Kind, n: Node, frame: &[u8]) -> Effect
-    ensures { result ≡ unless (type_outcomes (Some k) n frame.now)
-        (asked_by (Some k) n.mode frame.now) }
+// What a frame comes to by its type: outcomes 6 and 7, then its request. A refusal changes no memory.
+fn accepted(n: Node, frame: &[u8]) -> Result<Deed, Refusal>
+    ensures { effect_in_numbers result ≡ unless (type_outcomes (found (type_of frame.now)) n frame.now)
+        (asked_of n frame.now) }
 {
-    let mode = n.mode;
-    let plate = n.plate;
-    let handled = k.handled;
-    let addressing = k.addressing;
-    let asks = k.request;
-    if !request::handled_here(handled, mode) {
-        return node_request::refuse(6);
+    let k = node_table::look_up(node_frame::type_of(frame)).ok_or(Refusal::NotHandled)?;
+    if !request::handled_here(k.handled, n.mode) {
+        return Err(Refusal::NotHandled);
     }
-    if !request::is_for(addressing, plate, frame) {
-        return node_request::refuse(7);
+    if !request::is_for(k.addressing, n.plate, frame) {
+        return Err(Refusal::NotForNode);
     }
-    node_request::asked_by(asks, mode, frame)
+    node_request::asked_by(k.request, n.mode, frame)
 }
 
 // What a frame comes to at a tidied node, over memories that are full (both of their size) or not: the refusal of the first outcome that
-// holds, or what it asks. A refusal leaves all as it is, but 8 nothing staged.
-pub fn decide(n: Node, full: bool, frame: &[u8]) -> Effect
-    ensures { result ≡ decided n full frame.now }
+// holds, or what it asks. A refusal changes no memory.
+#[tactic(auto, unfolding(node_rules::specs::Outcomes::decided))]
+pub fn decide(n: Node, full: bool, frame: &[u8]) -> Result<Deed, Refusal>
+    ensures { effect_in_numbers result ≡ decided n full frame.now }
 {
-    let mode = n.mode;
     if !full {
-        return node_request::refuse(1);
+        return Err(Refusal::WrongLength);
     }
-    if node_frame::is_deaf(mode) {
-        return node_request::refuse(3);
+    if node_frame::is_deaf(n.mode) {
+        return Err(Refusal::TakesNoFrame);
     }
     if request::misshapen(frame) {
-        return node_request::refuse(4);
+        return Err(Refusal::Misshapen);
     }
     if request::is_response(frame) {
-        return node_request::refuse(5);
+        return Err(Refusal::IsResponse);
     }
-    match node_table::look_up(node_frame::type_of(frame)) {
-        Some(k) => accepted(k, n, frame),
-        None => node_request::refuse(6),
-    }
+    accepted(n, frame)
 }

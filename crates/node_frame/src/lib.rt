@@ -15,27 +15,19 @@ pub fn type_of(frame: &[u8]) -> u16
 {
     let first = base::byte_at(frame, 0);
     let second = base::byte_at(frame, 1);
-    (first as u16) * 16 + (second as u16) / 16
+    u16::from_be_bytes([first, second]) / 16
 }
 
 // Outcome 3: the mode takes no frame, as it is error or waiting for restart.
 pub fn is_deaf(m: Mode) -> bool
     ensures { result ≡ is_deaf m }
 {
-    match m {
-        Mode::Normal(_) => false,
-        Mode::Programming(_) => false,
-        Mode::Error => true,
-        Mode::Waiting => true,
-    }
+    matches!(m, Mode::Error | Mode::Waiting)
 }
 
 // Outcome 1 is where this fails: whether both memories have their full size.
 pub fn full(flash: &[u8], eeprom: &[u8]) -> bool
     ensures { result ≡ full flash.now eeprom.now }
 {
-    if flash.len() == FLASH_CELLS {
-        return eeprom.len() == EEPROM_CELLS;
-    }
-    false
+    flash.len() == FLASH_CELLS && eeprom.len() == EEPROM_CELLS
 }

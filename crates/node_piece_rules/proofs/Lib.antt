@@ -1,3 +1,4 @@
+pub mod InNumbers
 pub mod Stopping
 pub mod Opening
 pub mod Taking

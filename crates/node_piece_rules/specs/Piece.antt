@@ -8,7 +8,18 @@ use Rattle.node_rules.specs.Record.{held_of, tidied}
 use Rattle.node_rules.specs.Outcomes.{first_that}
 use Rattle.node_rules.specs.Uart.{UartStep, uart_after, held_with, held_outcomes, silent}
 use Rattle.node_rules.specs.Runs.{state, end_of, behind_byte, bytes_in}
-use Rattle.node_piece_rules.specs.declared.PieceAnswer.{PieceAnswer}
+use Rattle.node_rules.specs.Numbered.{UartAnswer}
+use Rattle.node_rules.specs.InNumbers.{uart_in_numbers}
+use Rattle.node_piece_rules.specs.declared.PieceAnswer.{PieceAnswer as PieceHanded}
+
+-- the answer to a piece, in document 01's numbers: how many of its bytes are taken, and the answer to the last of them
+pub record PieceAnswer : Type 0 where
+  pub taken : ℕ
+  pub answer : UartAnswer
+
+-- and what the code's answer is in these
+abbrev pub piece_in_numbers : PieceHanded → PieceAnswer
+piece_in_numbers a = record { taken = a.taken; answer = uart_in_numbers a.answer }
 
 -- all that a piece leaves: how many of its bytes are taken, and what the last of them leaves
 pub record PieceStep : Type 0 where

@@ -13,15 +13,7 @@ pub use tidying::{is_tidy, none_held, tidy_receiver};
 pub fn with_mode(n: Node, m: Mode) -> Node
     ensures { result ≡ with_mode n m }
 {
-    let choices = n.choices;
-    let plate = n.plate;
-    let receiver = n.receiver;
-    Node {
-        choices,
-        plate,
-        receiver,
-        mode: m,
-    }
+    Node { mode: m, ..n }
 }
 
 // The tidied record: an illegal staged command is none, more than 14 held bytes or held bytes not starting with 0xAA are none, and
@@ -29,11 +21,11 @@ pub fn with_mode(n: Node, m: Mode) -> Node
 pub fn tidy(node: Node) -> Node
     ensures { result ≡ tidied node }
 {
-    let mut n = node;
-    let receiver = tidying::tidy_receiver(n.receiver);
-    n.receiver = receiver;
-    let mode = n.mode;
-    if tidying::is_tidy(mode) {
+    let n = Node {
+        receiver: tidying::tidy_receiver(node.receiver),
+        ..node
+    };
+    if tidying::is_tidy(n.mode) {
         return n;
     }
     with_mode(n, Mode::Programming(Staged::Nothing))

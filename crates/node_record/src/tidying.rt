@@ -17,29 +17,17 @@ pub fn none_held() -> Receiver
 }
 
 // What is held, and 0 behind it: more than 14 bytes, or bytes not starting with 0xAA, count as none.
+#[tactic(auto, unfolding(node_rules::specs::Record::held_in))]
 pub fn tidy_receiver(r: Receiver) -> Receiver
     ensures { result ≡ receiving (held_in r) }
 {
     let count = r.count;
-    if count == 0 {
+    let mut held = r.held;
+    if count == 0 || 14 < count || held[0] != 0xAA {
         return none_held();
     }
-    if 14 < count {
-        return none_held();
-    }
-    let bytes = r.held;
-    if bytes[0] != 0xAA {
-        return none_held();
-    }
-    let mut t = r;
-    let mut i = 1;
-    while i < 15 {
-        if count <= i {
-            t.held[i] = 0;
-        }
-        i += 1;
-    }
-    t
+    held[count..].fill(0);
+    Receiver { held, count }
 }
 
 // Whether a command is legal at an address of either kind.
@@ -69,9 +57,7 @@ pub fn is_tidy(m: Mode) -> bool
     ensures { result ≡ is_tidy m }
 {
     match m {
-        Mode::Normal(_) => true,
         Mode::Programming(s) => legal_staged(s),
-        Mode::Error => true,
-        Mode::Waiting => true,
+        Mode::Normal(_) | Mode::Error | Mode::Waiting => true,
     }
 }

@@ -5,7 +5,7 @@ ghost use Rattle.node_rules.specs.Replies.{reply_of, no_reply, one_reply, two_re
 use node_rules::{Plate, Replies};
 
 // No reply.
-pub fn none() -> Replies
+pub fn none() -> Replies<24>
     ensures { result ≡ no_reply }
 {
     Replies {
@@ -14,32 +14,34 @@ pub fn none() -> Replies
     }
 }
 
-// One reply of this type with these data.
-pub fn one(p: Plate, t: u16, d: [u8; 8]) -> Replies
+// A reply of this type with these data.
+pub fn reply(p: Plate, t: u16, d: [u8; 8]) -> [u8; 12]
     requires { t < 4096 }
-    ensures { result ≡ one_reply (reply_of p t d) }
+    ensures { result ≡ reply_of p t d }
 {
     let first = (t / 16) as u8;
     let second = (t % 16 * 16 + 1) as u8;
-    let bytes = [
-        first, second, p.own.0, p.group.0, d[0], d[1], d[2], d[3], d[4], d[5], d[6], d[7], 0, 0, 0,
-        0, 0, 0, 0, 0, 0, 0, 0, 0,
-    ];
+    [
+        first, second, p.own.0, p.group.0, d[0], d[1], d[2], d[3], d[4], d[5], d[6], d[7],
+    ]
+}
+
+// One reply.
+pub fn one(reply: [u8; 12]) -> Replies<24>
+    ensures { result ≡ one_reply reply }
+{
+    let mut bytes = [0; 24];
+    bytes[..12].copy_from_slice(&reply);
     Replies { count: 1, bytes }
 }
 
-// Two replies of this type.
-pub fn two(p: Plate, t: u16, d: [u8; 8], e: [u8; 8]) -> Replies
-    requires { t < 4096 }
-    ensures { result ≡ two_replies (reply_of p t d) (reply_of p t e) }
+// Two replies.
+pub fn two(first: [u8; 12], second: [u8; 12]) -> Replies<24>
+    ensures { result ≡ two_replies first second }
 {
-    let first = (t / 16) as u8;
-    let second = (t % 16 * 16 + 1) as u8;
-    let own = p.own.0;
-    let group = p.group.0;
-    let bytes = [
-        first, second, own, group, d[0], d[1], d[2], d[3], d[4], d[5], d[6], d[7], first, second,
-        own, group, e[0], e[1], e[2], e[3], e[4], e[5], e[6], e[7],
-    ];
+    let mut bytes = [0; 24];
+    let (front, back) = bytes.split_at_mut(12);
+    front.copy_from_slice(&first);
+    back.copy_from_slice(&second);
     Replies { count: 2, bytes }
 }

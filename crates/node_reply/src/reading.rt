@@ -36,10 +36,7 @@ pub fn firmware_error(flash: &[u8]) -> [u8; 8]
     ensures { result ≡ firmware_error_data flash.now }
 {
     let found = memory_start::examine(flash);
-    let sum = found.sum;
     let flags = found.flags;
-    let high = (sum / 65536 % 256) as u8;
-    let middle = (sum / 256 % 256) as u8;
-    let low = (sum % 256) as u8;
+    let [_, high, middle, low] = found.sum.to_be_bytes();
     [flags, high, middle, low, 0xFF, 0xFF, 0x03, 0x04]
 }

@@ -1,44 +1,34 @@
-// What a request comes to: the last column of the request table, with 8 and 9 in front. No memory is read.
+// What a request comes to: the last column of the request table, with outcomes 8 and 9 in front. No memory is read.
 #![tactic(auto)]
 
 ghost use Rattle.std.specs.Prelude.{◌≡◌, not, [], ◌∷◌};
 ghost use Rattle.memory_address.specs.Rule.{is_legal};
 ghost use Rattle.node_rules.specs.Requests.{D, address_in, ruled_in, command_at, staged_by, staged_in, does, doing, asked};
-ghost use Rattle.node_rules.specs.Outcomes.{outcome, refused, unless, is_nothing, request_outcomes};
+ghost use Rattle.node_rules.specs.Outcomes.{outcome, afterwards, unless, is_nothing, request_outcomes};
+ghost use Rattle.node_rules.specs.InNumbers.{refusal_number, effect_in_numbers};
 
 use memory_address::Address;
-use node_rules::{Effect, Memory, Mode, Next, Reply, Request, Staged};
+use node_rules::{Deed, Memory, Mode, Next, Refusal, Reply, Request, Staged};
 
-// A refusal: no reply, and all as it is, but 8 leaves nothing staged.
-pub fn refuse(number: u8) -> Effect
-    ensures { result ≡ refused number }
+// What a refusal leaves of the mode: all as it is, but an illegal address leaves nothing staged.
+pub fn afterwards(r: Refusal) -> Next
+    ensures { result ≡ afterwards (refusal_number r) }
 {
-    if number == 8 {
-        return Effect {
-            number,
-            reply: Reply::Silent,
-            memory: Memory::Kept,
-            next: Next::Programs(Staged::Nothing),
-        };
-    }
-    Effect {
-        number,
-        reply: Reply::Silent,
-        memory: Memory::Kept,
-        next: Next::Stays,
+    match r {
+        Refusal::IllegalAddress => Next::Programs(Staged::Nothing),
+        _ => Next::Stays,
     }
 }
 
 // Done: with this reply, this becomes of the memories and this of the mode.
-fn does(reply: Reply, memory: Memory, next: Next) -> Effect
-    ensures { result ≡ does reply memory next }
+fn does(reply: Reply, memory: Memory, next: Next) -> Result<Deed, Refusal>
+    ensures { effect_in_numbers result ≡ does reply memory next }
 {
-    Effect {
-        number: 0,
+    Ok(Deed {
         reply,
         memory,
         next,
-    }
+    })
 }
 
 // D0 D1 D2, high byte first.
@@ -48,47 +38,34 @@ fn address_in(frame: &[u8]) -> u32
     let high = base::byte_at(frame, 4);
     let middle = base::byte_at(frame, 5);
     let low = base::byte_at(frame, 6);
-    (high as u32) * 65536 + (middle as u32) * 256 + (low as u32)
+    u32::from_be_bytes([0, high, middle, low])
 }
 
 // The command that is staged at a legal address.
 fn command_at(command: u8, a: Address) -> Staged
     ensures { result ≡ command_at command a }
 {
-    match a {
-        Address::Flash(f) => {
-            if command == 0x01 {
-                return Staged::Read(Address::Flash(f));
-            }
-            if command == 0x02 {
-                return Staged::Write(Address::Flash(f));
-            }
-            Staged::Erase(f)
-        }
-        Address::Eeprom(p) => {
-            if command == 0x01 {
-                return Staged::Read(Address::Eeprom(p));
-            }
-            Staged::Write(Address::Eeprom(p))
-        }
+    match (command, a) {
+        (0x01, _) => Staged::Read(a),
+        (0x02, _) => Staged::Write(a),
+        (_, Address::Flash(f)) => Staged::Erase(f),
+        (_, Address::Eeprom(_)) => Staged::Write(a),
     }
 }
 
-// An address frame: echoed, with the command staged where address and command are legal; else 8, which leaves nothing staged.
-fn stage(frame: &[u8]) -> Effect
-    ensures { result ≡ unless (outcome 8 (not (is_legal (ruled_in frame.now))) ∷ [])
+// An address frame: echoed, with the command staged where address and command are legal; else refused.
+fn stage(frame: &[u8]) -> Result<Deed, Refusal>
+    ensures { effect_in_numbers result ≡ unless (outcome 8 (not (is_legal (ruled_in frame.now))) ∷ [])
         (does Reply.Echoed Memory.Kept (Next.Programs (staged_by (D 5 frame.now) (ruled_in frame.now)))) }
 {
-    let at = address_in(frame);
     let command = base::byte_at(frame, 9);
-    match memory_address::rule(at, command as u32) {
-        Some(a) => does(
-            Reply::Echoed,
-            Memory::Kept,
-            Next::Programs(command_at(command, a)),
-        ),
-        None => refuse(8),
-    }
+    let rule = memory_address::rule(address_in(frame), command as u32);
+    let a = rule.ok_or(Refusal::IllegalAddress)?;
+    does(
+        Reply::Echoed,
+        Memory::Kept,
+        Next::Programs(command_at(command, a)),
+    )
 }
 
 // What is staged in a mode.
@@ -96,19 +73,17 @@ fn staged_in(m: Mode) -> Staged
     ensures { result ≡ staged_in m }
 {
     match m {
-        Mode::Normal(_) => Staged::Nothing,
         Mode::Programming(s) => s,
-        Mode::Error => Staged::Nothing,
-        Mode::Waiting => Staged::Nothing,
+        Mode::Normal(_) | Mode::Error | Mode::Waiting => Staged::Nothing,
     }
 }
 
-// A data frame: the staged command is to be done, and stays staged; 9 where nothing is, which leaves all as it is.
-fn obey(s: Staged) -> Effect
-    ensures { result ≡ unless (outcome 9 (is_nothing s) ∷ []) (doing s) }
+// A data frame: the staged command is to be done, and stays staged; refused where nothing is staged.
+fn obey(s: Staged) -> Result<Deed, Refusal>
+    ensures { effect_in_numbers result ≡ unless (outcome 9 (is_nothing s) ∷ []) (doing s) }
 {
     match s {
-        Staged::Nothing => refuse(9),
+        Staged::Nothing => Err(Refusal::NothingStaged),
         Staged::Read(a) => does(Reply::Cells(a), Memory::Kept, Next::Stays),
         Staged::Write(a) => does(Reply::Cells(a), Memory::Written(a), Next::Stays),
         Staged::Erase(f) => does(
@@ -119,9 +94,9 @@ fn obey(s: Staged) -> Effect
     }
 }
 
-// What a request comes to: 8 and 9, else what it asks.
-pub fn asked_by(asks: Request, m: Mode, frame: &[u8]) -> Effect
-    ensures { result ≡ unless (request_outcomes asks m frame.now) (asked asks m frame.now) }
+// What a request comes to, or its refusal, which changes no memory.
+pub fn asked_by(asks: Request, m: Mode, frame: &[u8]) -> Result<Deed, Refusal>
+    ensures { effect_in_numbers result ≡ unless (request_outcomes asks m frame.now) (asked asks m frame.now) }
 {
     match asks {
         Request::EnterProgramming => does(

@@ -5,6 +5,7 @@ use contract.Lifetimes.{Lfts}
 use borrow.Fn.World.{ArgsD, ResD}
 use denote.Triple.Clauses.{AtExit}
 use borrow.Fn.Kinds.{ended_of}
+use Rattle.node_rules.proofs.InNumbers.{same_restarted}
 use Rattle.node_restart.specs.contracts.fresh.{signature as fresh-signature}
 use Rattle.node_restart.proofs.fresh.Kinds as fresh-kinds
 use Rattle.node_restart.proofs.fresh.Reads as fresh-reads
@@ -23,9 +24,9 @@ fresh_tight κs a r r' s s' p q = p ∙ sym q
 pub restart_with_tight : (κs : Lfts 2) (a : ArgsD restart-with-signature κs) (r r' : ResD restart-with-signature κs)
     (s s' : AtExit (ended_of 2 restart-with-kinds.ps restart-with-kinds.r) κs)
     → restart-with-reads.Post κs a r s → restart-with-reads.Post κs a r' s' → r ≡ r'
-restart_with_tight κs a r r' s s' p q = p ∙ sym q
+restart_with_tight κs a r r' s s' p q = same_restarted r r' (p ∙ sym q)
 
 pub restart_tight : (κs : Lfts 2) (a : ArgsD restart-signature κs) (r r' : ResD restart-signature κs)
     (s s' : AtExit (ended_of 2 restart-kinds.ps restart-kinds.r) κs)
     → restart-reads.Post κs a r s → restart-reads.Post κs a r' s' → r ≡ r'
-restart_tight κs a r r' s s' p q = p ∙ sym q
+restart_tight κs a r r' s s' p q = same_restarted r r' (p ∙ sym q)

@@ -6,9 +6,10 @@ mod restarting;
 ghost use Rattle.std.specs.Prelude.{◌≡◌};
 ghost use Rattle.node_rules.specs.Record.{plain, fresh_node};
 ghost use Rattle.node_rules.specs.Restart.{restart_step};
+ghost use Rattle.node_rules.specs.InNumbers.{restarted_in_numbers};
 
 use memory_address::{Group, Module};
-use node_rules::{Choices, Mode, Node, Noise, Pin, Plate, Restarted};
+use node_rules::{Choices, Mode, Node, Noise, Pin, Plate, Refusal, Restarted};
 
 // What a plain restart chooses: this pin, and for the rest what is meant where nothing is said, after noise the new way.
 fn plain(pin: Pin) -> Choices
@@ -21,25 +22,26 @@ fn plain(pin: Pin) -> Choices
 }
 
 // A fresh node with these six fixed bytes: own numbers 0, nothing held, pin CAN only, waiting for restart.
+#[tactic(auto, unfolding(node_rules::specs::Record::fresh_node))]
 pub fn fresh(fixed: [u8; 6]) -> Node
     ensures { result ≡ fresh_node fixed }
 {
-    let choices = plain(Pin::CanOnly);
     let plate = Plate {
         fixed,
         own: Module(0),
         group: Group(0),
     };
-    let receiver = node_record::none_held();
     Node {
-        choices,
+        choices: plain(Pin::CanOnly),
         plate,
-        receiver,
+        receiver: node_record::none_held(),
         mode: Mode::Waiting,
     }
 }
 
-// Restart with these choices and the self-test's verdict. 1 where a memory has the wrong length: nothing is taken then, no choice either.
+// Restart with these choices and the self-test's verdict. It is refused where a memory has the wrong length: nothing is taken then, no
+// choice either, and the record is tidied.
+#[tactic(auto, unfolding(node_rules::specs::Restart::restart_step))]
 pub fn restart_with(
     node: Node,
     choices: Choices,
@@ -47,19 +49,23 @@ pub fn restart_with(
     flash: &[u8],
     eeprom: &[u8],
 ) -> Restarted
-    ensures { result ≡ restart_step node choices passed flash.now eeprom.now }
+    ensures { restarted_in_numbers result ≡ restart_step node choices passed flash.now eeprom.now }
 {
     if node_frame::full(flash, eeprom) {
-        let n = restarting::restarted(node, choices, passed, flash, eeprom);
-        return Restarted { number: 0, node: n };
+        return Restarted {
+            outcome: Ok(()),
+            node: restarting::restarted(node, choices, passed, flash, eeprom),
+        };
     }
-    let n = node_record::tidy(node);
-    Restarted { number: 1, node: n }
+    Restarted {
+        outcome: Err(Refusal::WrongLength),
+        node: node_record::tidy(node),
+    }
 }
 
 // Restart with this pin and the self-test's verdict, and the other choices as they are meant where nothing is said.
 pub fn restart(node: Node, pin: Pin, passed: bool, flash: &[u8], eeprom: &[u8]) -> Restarted
-    ensures { result ≡ restart_step node (plain pin) passed flash.now eeprom.now }
+    ensures { restarted_in_numbers result ≡ restart_step node (plain pin) passed flash.now eeprom.now }
 {
     restart_with(node, plain(pin), passed, flash, eeprom)
 }

@@ -4,7 +4,7 @@ use Rattle.node_rules.specs.declared.Refusal.{Refusal}
 use Rattle.node_rules.specs.declared.Refusal.TheVariants.{WrongLength, ClosedPort, TakesNoFrame, Misshapen, IsResponse, NotHandled, NotForNode, IllegalAddress, NothingStaged, Incomplete, BadFrame}
 use Rattle.node_rules.specs.declared.Node.{Node}
 use Rattle.node_rules.specs.declared.Deed.{Deed}
-use Rattle.node_rules.specs.declared.Replies.{Replies as Made}
+use Rattle.node_rules.specs.declared.Replies.{Replies}
 use Rattle.node_rules.specs.declared.Answer.{Answer as Handed}
 use Rattle.node_rules.specs.declared.Restarted.{Restarted as Restart}
 use Rattle.node_rules.specs.Numbered.{Effect, Answer, UartAnswer, Restarted}
@@ -52,17 +52,17 @@ effect_back (Err r) = refusal_back _ r
 abbrev answer_of : Answer → Handed 24
 answer_of a = record { outcome = read_back a.number (record { count = a.count; bytes = a.replies }); node = a.node }
 
-answer_back : (o : Result (Made 24) Refusal) (n : Node) → answer_of (outcome_in_numbers o n) ≡ record { outcome = o; node = n }
+answer_back : (o : Result (Replies 24) Refusal) (n : Node) → answer_of (outcome_in_numbers o n) ≡ record { outcome = o; node = n }
 answer_back (Ok r) n = refl
-answer_back (Err r) n = ap (λ (o : Result (Made 24) Refusal). record { outcome = o; node = n }) (refusal_back _ r)
+answer_back (Err r) n = ap (λ (o : Result (Replies 24) Refusal). record { outcome = o; node = n }) (refusal_back _ r)
 
 abbrev uart_answer_of : UartAnswer → Handed 30
 uart_answer_of a = record { outcome = read_back a.number (record { count = a.count; bytes = a.replies }); node = a.node }
 
-uart_answer_back : (o : Result (Made 30) Refusal) (n : Node)
+uart_answer_back : (o : Result (Replies 30) Refusal) (n : Node)
     → uart_answer_of (uart_outcome_in_numbers o n) ≡ record { outcome = o; node = n }
 uart_answer_back (Ok r) n = refl
-uart_answer_back (Err r) n = ap (λ (o : Result (Made 30) Refusal). record { outcome = o; node = n }) (refusal_back _ r)
+uart_answer_back (Err r) n = ap (λ (o : Result (Replies 30) Refusal). record { outcome = o; node = n }) (refusal_back _ r)
 
 abbrev restarted_of : Restarted → Restart
 restarted_of a = record { outcome = read_back a.number tt; node = a.node }

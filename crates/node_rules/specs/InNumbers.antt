@@ -4,10 +4,10 @@ use Rattle.node_rules.specs.declared.Refusal.{Refusal}
 use Rattle.node_rules.specs.declared.Refusal.TheVariants.{WrongLength, ClosedPort, TakesNoFrame, Misshapen, IsResponse, NotHandled, NotForNode, IllegalAddress, NothingStaged, Incomplete, BadFrame}
 use Rattle.node_rules.specs.declared.Node.{Node}
 use Rattle.node_rules.specs.declared.Deed.{Deed}
-use Rattle.node_rules.specs.declared.Replies.{Replies as Made}
+use Rattle.node_rules.specs.declared.Replies.{Replies}
 use Rattle.node_rules.specs.declared.Answer.{Answer as Handed}
 use Rattle.node_rules.specs.declared.Restarted.{Restarted as Restart}
-use Rattle.node_rules.specs.Numbered.{Effect, Replies, Answer, UartAnswer, Restarted}
+use Rattle.node_rules.specs.Numbered.{Effect, Answer, UartAnswer, Restarted}
 use Rattle.node_rules.specs.Requests.{does}
 use Rattle.node_rules.specs.Outcomes.{refused}
 use Rattle.node_rules.specs.Step.{answering, silent_answer}
@@ -32,20 +32,16 @@ abbrev pub effect_in_numbers : Result Deed Refusal → Effect
 effect_in_numbers (Ok d) = does d.reply d.memory d.next
 effect_in_numbers (Err r) = refused (refusal_number r)
 
--- replies, whatever their room
-abbrev pub told : {n : ℕ} → Made n → Replies
-told r = record { count = r.count; bytes = r.bytes }
-
 -- the answer to a CAN frame
-abbrev pub outcome_in_numbers : Result (Made 24) Refusal → Node → Answer
-outcome_in_numbers (Ok r) n = answering 0 (told r) n
+abbrev pub outcome_in_numbers : Result (Replies 24) Refusal → Node → Answer
+outcome_in_numbers (Ok r) n = answering 0 r n
 outcome_in_numbers (Err r) n = silent_answer (refusal_number r) n
 
 abbrev pub answer_in_numbers : Handed 24 → Answer
 answer_in_numbers a = outcome_in_numbers a.outcome a.node
 
 -- the answer to a UART byte
-abbrev pub uart_outcome_in_numbers : Result (Made 30) Refusal → Node → UartAnswer
+abbrev pub uart_outcome_in_numbers : Result (Replies 30) Refusal → Node → UartAnswer
 uart_outcome_in_numbers (Ok r) n = record { number = 0; count = r.count; replies = r.bytes; node = n }
 uart_outcome_in_numbers (Err r) n = silent_on_uart (refusal_number r) n
 

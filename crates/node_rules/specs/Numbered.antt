@@ -1,5 +1,5 @@
--- What a frame comes to and what a call answers, as document 01 tells it: by a number. specs/Numbers.antt says what an answer of the code is
--- in these.
+-- What a frame comes to and what a call answers, as document 01 tells it: by a number. specs/InNumbers.antt says what the code's
+-- answers are in these.
 use Rattle.std.specs.Prelude.{ℕ, List}
 use Rattle.node_rules.specs.declared.Reply.{Reply}
 use Rattle.node_rules.specs.declared.Memory.{Memory}
@@ -12,11 +12,6 @@ pub record Effect : Type 0 where
   pub reply : Reply
   pub memory : Memory
   pub next : Next
-
--- how many replies, and their bytes; unused room is 0
-pub record Replies : Type 0 where
-  pub count : ℕ
-  pub bytes : List ℕ
 
 -- the answer to a CAN frame: the number, how many replies of 12 bytes and their bytes, and the node
 pub record Answer : Type 0 where

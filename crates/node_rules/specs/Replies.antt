@@ -13,7 +13,7 @@ use Rattle.node_rules.specs.declared.Plate.{Plate}
 use Rattle.node_rules.specs.declared.Node.{Node}
 use Rattle.node_rules.specs.declared.Reply.{Reply}
 use Rattle.node_rules.specs.declared.Reply.TheVariants.{Silent, Entered, Hardware, Firmware, Described, Device, Echoed, Cells}
-use Rattle.node_rules.specs.Numbered.{Replies}
+use Rattle.node_rules.specs.declared.Replies.{Replies}
 use Rattle.node_rules.specs.Requests.{data_in}
 
 -- a reply of this type with these eight data bytes
@@ -69,17 +69,17 @@ cells_at (Flash a) flash eeprom = listed flash a.0 8
 cells_at (Eeprom p) flash eeprom = listed eeprom (eeprom_cell p.0) 8
 
 -- no reply, one and two; unused room is 0
-abbrev pub no_reply : Replies
+abbrev pub no_reply : Replies 24
 no_reply = record { count = 0; bytes = replicate 24 0 }
 
-abbrev pub one_reply : List ℕ → Replies
+abbrev pub one_reply : List ℕ → Replies 24
 one_reply reply = record { count = 1; bytes = reply ++ replicate 12 0 }
 
-abbrev pub two_replies : List ℕ → List ℕ → Replies
+abbrev pub two_replies : List ℕ → List ℕ → Replies 24
 two_replies first second = record { count = 2; bytes = first ++ second }
 
 -- the replies to a frame, over the memories as they are afterwards
-abbrev pub replying : Reply → Node → List ℕ → List ℕ → List ℕ → Replies
+abbrev pub replying : Reply → Node → List ℕ → List ℕ → List ℕ → Replies 24
 replying Silent n f flash eeprom = no_reply
 replying Entered n f flash eeprom = one_reply (reply_of n.plate (type_of f) entered_data)
 replying Hardware n f flash eeprom = one_reply (reply_of n.plate (type_of f) (hardware_data n.plate))

@@ -9,7 +9,8 @@ use Rattle.node_rules.specs.declared.Memory.{Memory}
 use Rattle.node_rules.specs.declared.Memory.TheVariants.{Kept, Bootfl, Written, Erased}
 use Rattle.node_rules.specs.declared.Next.{Next}
 use Rattle.node_rules.specs.declared.Next.TheVariants.{Stays, Programs, Waits}
-use Rattle.node_rules.specs.Numbered.{Effect, Replies, Answer}
+use Rattle.node_rules.specs.declared.Replies.{Replies}
+use Rattle.node_rules.specs.Numbered.{Effect, Answer}
 use Rattle.node_rules.specs.Record.{with_mode, tidied}
 use Rattle.node_rules.specs.Requests.{data_in}
 use Rattle.node_rules.specs.Outcomes.{decided}
@@ -49,7 +50,7 @@ node_after Stays n = n
 node_after (Programs s) n = with_mode n (Programming s)
 node_after Waits n = with_mode n Waiting
 
-abbrev pub answering : ℕ → Replies → Node → Answer
+abbrev pub answering : ℕ → Replies 24 → Node → Answer
 answering number r n = record { number = number; count = r.count; replies = r.bytes; node = n }
 
 -- an effect done: the memories change, and the replies are read over them

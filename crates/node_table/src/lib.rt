@@ -1,7 +1,8 @@
 // The handled types, in one table.
 #![tactic(auto)]
 
-ghost use Rattle.std.specs.Prelude.{◌≡◌};
+ghost use Rattle.std.specs.Prelude.{◌≡◌, ◌==◌};
+ghost use Rattle.std.specs.List.{find};
 ghost use Rattle.node_rules.specs.Requests.{found};
 
 use node_rules::{Addressing, HandledIn, Kind, Request};
@@ -99,27 +100,17 @@ const TABLE: [Kind; 15] = [
     },
 ];
 
+// The first row of that type among these.
+fn first_of(t: u16, rows: &[Kind]) -> Option<Kind>
+    ensures { result ≡ find (λ k. k.frame_type == t) rows.now }
+{
+    rows.iter().copied().find(|k| k.frame_type == t)
+}
+
 // The table's first row of that type.
+#[tactic(auto, unfolding(node_rules::specs::Requests::found, node_rules::specs::Requests::handled_types))]
 pub fn look_up(t: u16) -> Option<Kind>
     ensures { result ≡ found t }
 {
-    let table = TABLE;
-    match t {
-        0x100 => Some(table[0]),
-        0x101 => Some(table[1]),
-        0x102 => Some(table[2]),
-        0x103 => Some(table[3]),
-        0x104 => Some(table[4]),
-        0x105 => Some(table[5]),
-        0x106 => Some(table[6]),
-        0x10D => Some(table[7]),
-        0x10E => Some(table[8]),
-        0x10F => Some(table[9]),
-        0x111 => Some(table[10]),
-        0x010 => Some(table[11]),
-        0x020 => Some(table[12]),
-        0x030 => Some(table[13]),
-        0x040 => Some(table[14]),
-        _ => None,
-    }
+    first_of(t, &TABLE)
 }

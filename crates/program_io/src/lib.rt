@@ -1,7 +1,8 @@
 // What the programs ask of the system: their arguments, files by the names that these give, and messages of what failed.
 #![tactic(auto)]
 
-ghost use Rattle.std.specs.Io.{WritesAtMost};
+ghost use Rattle.std.specs.Prelude.{◌≡◌, ℕ, ◌<◌, ◌≤◌, IsTrue, Ok, Err, Some, None, IfSome, length};
+ghost use Rattle.std.specs.Io.{ReadsAtMost, WritesAtMost};
 
 use std::env::{Env, FillError};
 use std::fs::File;
@@ -28,6 +29,9 @@ pub fn arg_count(rt: &impl Env) -> usize {
     usize::MAX
 }
 
+// The most bytes that a name has.
+const LONGEST_NAME: usize = 4096;
+
 // Puts an argument at the start of buf and answers its length, or why that can't be. One that is longer leaves its first bytes in buf.
 pub fn arg(rt: &impl Env, i: usize, buf: &mut [u8]) -> io::Result<usize>
     ensures { WritesAtMost result buf.new }
@@ -41,10 +45,7 @@ pub fn arg(rt: &impl Env, i: usize, buf: &mut [u8]) -> io::Result<usize>
 
 // A file's name as text, which it has to be.
 fn text_of(name: &[u8]) -> io::Result<&str> {
-    match str::from_utf8(name) {
-        Ok(text) => Ok(text),
-        Err(_) => Err(Error::from(ErrorKind::InvalidFilename)),
-    }
+    str::from_utf8(name).map_err(|_| Error::from(ErrorKind::InvalidFilename))
 }
 
 // Opens the file of this name for reading.
@@ -89,4 +90,59 @@ pub fn unwritten(rt: &HostRuntime, what: &[u8], error: Error) -> ExitCode {
     }
     fail(rt, what, error);
     ExitCode::SUCCESS
+}
+
+// Whether an argument starts with a dash, and is longer than `most` bytes: it can name no file then, as `--help`.
+pub fn is_dashed(rt: &HostRuntime, i: usize, most: usize) -> bool
+    ensures { IsTrue result → most < 4096 }
+{
+    let mut word = [0u8; LONGEST_NAME];
+    match arg(rt, i, &mut word) {
+        Ok(n) => base::byte_at(&word, 0) == b'-' && n > most,
+        Err(_) => false,
+    }
+}
+
+// How many bytes were read; none where that failed, with a message under this name.
+fn or_tell(rt: &HostRuntime, what: &[u8], read: io::Result<usize>) -> Option<usize>
+    ensures done { (n : ℕ) → read ≡ Ok n → result ≡ Some n }
+    ensures failed { (e : _) → read ≡ Err e → result ≡ None }
+{
+    match read {
+        Ok(n) => Some(n),
+        Err(error) => {
+            fail(rt, what, error);
+            None
+        }
+    }
+}
+
+// Reads the file of this name until buf is full or the file ends, and answers how many bytes those are.
+fn read_file(rt: &HostRuntime, name: &[u8], buf: &mut [u8]) -> io::Result<usize>
+    ensures { ReadsAtMost result buf.new }
+{
+    let mut file = open_read(rt, name)?;
+    run_stream::read_full(&mut file, buf)
+}
+
+// The same of what a name stands for: `-` is standard input.
+fn read_name(rt: &HostRuntime, name: &[u8], buf: &mut [u8]) -> Option<usize>
+    ensures { IfSome result (λ n. n ≤ length buf.new) }
+{
+    if base::byte_at(name, 0) == b'-' {
+        let read = run_stream::read_full(&mut rt.stdin(), buf);
+        return or_tell(rt, b"standard input", read);
+    }
+    let read = read_file(rt, name, buf);
+    or_tell(rt, name, read)
+}
+
+// Reads what an argument names until buf is full or the input ends: `-` is standard input. It answers how many bytes those are, or none
+// where it can't be read, with a message; then any bytes may stand in buf.
+pub fn read_argument(rt: &HostRuntime, i: usize, buf: &mut [u8]) -> Option<usize>
+    ensures { IfSome result (λ n. n ≤ length buf.new) }
+{
+    let mut name = [0u8; LONGEST_NAME];
+    let n = or_tell(rt, b"the file's name", arg(rt, i, &mut name))?;
+    read_name(rt, &name[..n], buf)
 }

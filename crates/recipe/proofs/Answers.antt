@@ -3,9 +3,22 @@
 use mathlib.Core.Path.{◌≡◌}
 use mathlib.Core.List.{List}
 use Prim.Native.Nat.{ℕ, ◌*◌, ◌≤◌, ◌<◌}
+use native.Mathlib.Omega.{arith}
 use lib.ListN.{length}
 use borrow.Author.Tests.{lt-ltb, le-ltb}
-use Rattle.recipe.specs.Translation.{Frames, Refused, checked, translated, output_by}
+use Rattle.recipe.specs.declared.Fault.{Fault}
+use Rattle.recipe.specs.declared.Fault.TheVariants.{NoLeave, UnknownKind, CutShort, OutOfPlace, IllegalAddress, TooManyItems, ShortOutput}
+use Rattle.recipe.specs.Translation.{Frames, Refused, fault_number, checked, translated, output_by}
+
+-- no fault has the number 0
+pub numbered : (f : Fault) → fault_number f ≡ 0 → ⊥
+numbered NoLeave e = absurd (omega arith)
+numbered UnknownKind e = absurd (omega arith)
+numbered CutShort e = absurd (omega arith)
+numbered OutOfPlace e = absurd (omega arith)
+numbered IllegalAddress e = absurd (omega arith)
+numbered TooManyItems e = absurd (omega arith)
+numbered ShortOutput e = absurd (omega arith)
 
 -- 26 comes last: any other refusal stands whatever the output
 pub refusal_first : (input : List ℕ) (number place : ℕ) → checked input ≡ Refused number place → (room : ℕ)

@@ -2,14 +2,15 @@
 -- Assumes nothing.
 use mathlib.Core.Path.{◌≡◌}
 use mathlib.Core.List.{List}
-use Prim.Native.Nat.{ℕ, ◌+◌, ◌*◌, ◌≤◌}
+use Prim.Native.Nat.{ℕ, ◌+◌, ◌≤◌}
 use lib.ListN.{length, drop, get_or, drop_of_length-le}
 use lib.Seq.{get_or-drop}
+use Rattle.base.specs.Parts.{high_first}
 use Rattle.recipe.specs.Faults.{address_of}
 
-pub address_at : (s : List ℕ) (place x y z : ℕ) → x ≡ get_or s (place + 1) 0 → y ≡ get_or s (place + 2) 0 → z ≡ get_or s (place + 3) 0
-    → x * 65536 + y * 256 + z ≡ address_of (drop place s)
-address_at s place x y z p q r = rw (get_or-drop place s 1 0, get_or-drop place s 2 0, get_or-drop place s 3 0, p, q, r)
+pub address_at : (s : List ℕ) (place x y z a : ℕ) → x ≡ get_or s (place + 1) 0 → y ≡ get_or s (place + 2) 0 → z ≡ get_or s (place + 3) 0
+    → a ≡ high_first x y z → a ≡ address_of (drop place s)
+address_at s place x y z a p q r e = rw (get_or-drop place s 1 0, get_or-drop place s 2 0, get_or-drop place s 3 0, e, p, q, r)
 
 -- behind the end there are no bytes
 pub address_behind : (s : List ℕ) (place : ℕ) → length s ≤ place → 0 ≡ address_of (drop place s)

@@ -2,13 +2,14 @@
 #![tactic(auto)]
 
 ghost use Rattle.std.specs.Prelude.{◌≡◌, ◌<◌, drop};
+ghost use Rattle.base.specs.Parts.{high_first};
 ghost use Rattle.recipe.specs.Faults.{address_of};
 
-// A byte as a number of 32 bits.
-fn wide(x: u8) -> u32
-    ensures { (result ≡ x) × (result < 256) }
+// Three bytes as a number, high byte first.
+fn high_first(a: u8, b: u8, c: u8) -> u32
+    ensures { (result ≡ high_first a b c) × (result < 0x1000000) }
 {
-    x as u32
+    u32::from_be_bytes([0, a, b, c])
 }
 
 // The address where its bytes may not all be there: each is read behind its own test. The promise is that of `address_of`.
@@ -18,10 +19,11 @@ fn short_address(input: &[u8], place: usize) -> u32
     if input.len() <= place {
         return 0;
     }
-    let high = wide(base::byte_at(input, place + 1));
-    let middle = wide(base::byte_at(input, place + 2));
-    let low = wide(base::byte_at(input, place + 3));
-    high * 65536 + middle * 256 + low
+    high_first(
+        base::byte_at(input, place + 1),
+        base::byte_at(input, place + 2),
+        base::byte_at(input, place + 3),
+    )
 }
 
 // The address in the body of the item at a place, high byte first; bytes behind the end count as 0. Where all of them are there, one test
@@ -29,13 +31,8 @@ fn short_address(input: &[u8], place: usize) -> u32
 pub fn address_of(input: &[u8], place: usize) -> u32
     ensures { (result ≡ address_of (drop place input.now)) × (result < 0x1000000) }
 {
-    if place < input.len() {
-        if 4 <= input.len() - place {
-            let high = wide(input[place + 1]);
-            let middle = wide(input[place + 2]);
-            let low = wide(input[place + 3]);
-            return high * 65536 + middle * 256 + low;
-        }
+    if place < input.len() && 4 <= input.len() - place {
+        return high_first(input[place + 1], input[place + 2], input[place + 3]);
     }
     short_address(input, place)
 }

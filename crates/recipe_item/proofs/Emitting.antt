@@ -11,7 +11,7 @@ use Rattle.base.specs.Parts.{part, patch}
 use Rattle.base.proofs.Patched.{part_length}
 use Rattle.recipe.specs.Items.{block, row}
 use Rattle.recipe.specs.Frames.{address_frame, data_frame, writes, item_frames, joined}
-use Rattle.recipe_item.proofs.Putting.{Sent, sent_start, sent_more, sent_end, sent_long, patch_patch}
+use Rattle.recipe_item.proofs.Putting.{Sent, sent_start, sent_more, sent_end, patch_patch}
 
 -- two frames, one behind the other
 pub patched_pair : (o o₁ o₂ f₁ f₂ x y : List ℕ) (p : ℕ) → p + 12 ≤ length o → length x ≡ 12 → f₁ ≡ x → f₂ ≡ y
@@ -39,52 +39,40 @@ writes_none : (m g a : ℕ) (d : List ℕ) → joined (writes m g 0 a d) ≡ []
 unfolding writes joined
 writes_none m g a d = refl
 
--- i rows are written, and the next goes to `next`
-pub record Writing (s : List ℕ) (from : ℕ) (o : List ℕ) (pos m g a : ℕ) (o₁ : List ℕ) (next i : ℕ) : Type 0 where
-  pub sent : Sent o o₁ pos (pos + 24 * i) (joined (writes m g 8 a (part s from 64)))
-      (joined (writes m g (8 - i) next (drop (8 * i) (part s from 64))))
-  pub few : i ≤ 8
-  pub address : next ≡ a + 8 * i
+-- i rows are written
+abbrev pub Writing : List ℕ → ℕ → List ℕ → ℕ → ℕ → ℕ → ℕ → List ℕ → ℕ → Type 0
+Writing s from o pos m g a o₁ i =
+    Sent o o₁ pos (pos + 24 * i) (joined (writes m g 8 a (part s from 64)))
+    (joined (writes m g (8 - i) (a + 8 * i) (drop (8 * i) (part s from 64))))
 
 module _ (s : List ℕ) (from : ℕ) (o : List ℕ) (pos m g a : ℕ) (inside : from + 64 ≤ length s) (room : pos + 192 ≤ length o) where
-  pub writing_start : Writing s from o pos m g a o a 0
-  writing_start = record {
-    sent = rw (add-zero pos) (sent_start o pos (joined (writes m g 8 a (part s from 64))) (omega arith));
-    few = omega arith;
-    address = omega arith;
-  }
+  pub writing_start : Writing s from o pos m g a o 0
+  writing_start = rw (add-zero pos, add-zero a) (sent_start o pos (joined (writes m g 8 a (part s from 64))) (omega arith))
 
-  pub writing_long : (o₁ : List ℕ) (next i : ℕ) → Writing s from o pos m g a o₁ next i → length o₁ ≡ length o
-  writing_long o₁ next i h = sent_long o pos _ o₁ (pos + 24 * i) _ h.sent
-
-  pub writing_next : (o₁ o₂ x : List ℕ) (next i : ℕ) → Writing s from o pos m g a o₁ next i → i < 8 → x ≡ take 8 (drop (from + 8 * i) s)
-      → o₂ ≡ patch o₁ (pos + 24 * i) (address_frame m g 0x02 next ++ data_frame m g x)
-      → Writing s from o pos m g a o₂ (next + 8) (i + 1)
-  writing_next o₁ o₂ x next i h l e q =
+  pub writing_next : (o₁ o₂ x : List ℕ) (i : ℕ) → Writing s from o pos m g a o₁ i → i < 8 → x ≡ take 8 (drop (from + 8 * i) s)
+      → o₂ ≡ patch o₁ (pos + 24 * i) (address_frame m g 0x02 (a + 8 * i) ++ data_frame m g x)
+      → Writing s from o pos m g a o₂ (i + 1)
+  writing_next o₁ o₂ x i h l e q =
       let d : List ℕ = part s from 64 in
       let row : take 8 (drop (8 * i) d) ≡ x =
       take_drop_take 8 (8 * i) 64 (drop from s) (omega arith) ∙ ap (take 8) (drop-drop (8 * i) from s) ∙ sym e in
       let count : 8 - i - 1 ≡ 8 - (i + 1) = omega arith in
       let further : 8 * i + 8 ≡ 8 * (i + 1) = omega arith in
+      let upward : a + 8 * i + 8 ≡ a + 8 * (i + 1) = omega arith in
       let rest : drop 8 (drop (8 * i) d) ≡ drop (8 * (i + 1)) d = drop-drop 8 (8 * i) d ∙ ap (λ (n : ℕ). drop n d) further in
       let eight : length x ≡ 8 = ap length e ∙ part_length s (from + 8 * i) 8 (omega arith) in
-      record {
-        sent =
-            sent_more o pos (joined (writes m g 8 a d)) o₁ (pos + 24 * i) (joined (writes m g (8 - i) next (drop (8 * i) d))) h.sent
-            (address_frame m g 0x02 next ++ data_frame m g x) (joined (writes m g (8 - (i + 1)) (next + 8) (drop (8 * (i + 1)) d)))
-            o₂ (pos + 24 * (i + 1))
-            (rw (row, count, rest) at (writes_step m g (8 - i) next (drop (8 * i) d) (omega arith))) q (omega arith) (omega arith);
-        few = omega arith;
-        address = omega (arith, h.address);
-      }
+      sent_more o pos (joined (writes m g 8 a d)) o₁ (pos + 24 * i) (joined (writes m g (8 - i) (a + 8 * i) (drop (8 * i) d))) h
+      (address_frame m g 0x02 (a + 8 * i) ++ data_frame m g x) (joined (writes m g (8 - (i + 1)) (a + 8 * (i + 1)) (drop (8 * (i + 1)) d)))
+      o₂ (pos + 24 * (i + 1))
+      (rw (row, count, rest, upward) at (writes_step m g (8 - i) (a + 8 * i) (drop (8 * i) d) (omega arith))) q (omega arith) (omega arith)
 
-  pub writing_end : (o₁ : List ℕ) (next i : ℕ) → Writing s from o pos m g a o₁ next i → 8 ≤ i
+  pub writing_end : (o₁ : List ℕ) (i : ℕ) → Writing s from o pos m g a o₁ i → 8 ≤ i
       → o₁ ≡ patch o pos (joined (writes m g 8 a (part s from 64)))
-  writing_end o₁ next i h l =
+  writing_end o₁ i h l =
       let none : 8 - i ≡ 0 = omega arith in
       (sent_end o pos (joined (writes m g 8 a (part s from 64))) o₁ (pos + 24 * i)
-      (joined (writes m g (8 - i) next (drop (8 * i) (part s from 64)))) h.sent
-      (rw none (writes_none m g next (drop (8 * i) (part s from 64))))).0
+      (joined (writes m g (8 - i) (a + 8 * i) (drop (8 * i) (part s from 64)))) h
+      (rw none (writes_none m g (a + 8 * i) (drop (8 * i) (part s from 64))))).0
 
 -- ---- the frames of an item
 module _ (m g a : ℕ) (d : List ℕ) where

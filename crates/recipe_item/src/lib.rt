@@ -7,16 +7,14 @@ mod put;
 ghost use Rattle.std.specs.Prelude.{◌&&◌, ◌≡◌, ◌+◌, leb, drop};
 ghost use Rattle.recipe_item.specs.Internal.Emitted.{item_put};
 
-use memory_address::{EepromPlace, FlashAddress, Group, Module};
+use memory_address::{EepromPlace, FlashAddress};
+use recipe::Numbers;
 
 // Whether as many bytes as `count`, from a byte on, lie within a size.
 fn within(size: usize, from: usize, count: usize) -> bool
     ensures { result ≡ leb (from + count) size }
 {
-    if size < from {
-        return false;
-    }
-    count <= size - from
+    from <= size && count <= size - from
 }
 
 // Whether an item of `size` bytes is whole in the input, and its `count` bytes of frames have room in the output.
@@ -30,16 +28,13 @@ fn whole_with_room(
 ) -> bool
     ensures { result ≡ (leb (place + size) bytes && leb (at + count) room) }
 {
-    if !within(bytes, place, size) {
-        return false;
-    }
-    within(room, at, count)
+    within(bytes, place, size) && within(room, at, count)
 }
 
 // Puts the frames of the item at a place into the output at a byte. Where the item is cut short, or the output has no room for all of
 // its frames, the output stays as it was.
-pub fn put_item(input: &[u8], place: usize, output: &mut [u8], at: usize, m: Module, g: Group)
-    ensures { output.new ≡ item_put m.0 g.0 (drop place input.now) output.old at }
+pub fn put_item(input: &[u8], place: usize, output: &mut [u8], at: usize, numbers: Numbers)
+    ensures { output.new ≡ item_put numbers.module.0 numbers.group.0 (drop place input.now) output.old at }
 {
     match base::byte_at(input, place) {
         0x02 => {
@@ -49,8 +44,7 @@ pub fn put_item(input: &[u8], place: usize, output: &mut [u8], at: usize, m: Mod
                     place,
                     output,
                     at,
-                    m,
-                    g,
+                    numbers,
                     FlashAddress(recipe_address::address_of(input, place)),
                 );
             }
@@ -62,15 +56,14 @@ pub fn put_item(input: &[u8], place: usize, output: &mut [u8], at: usize, m: Mod
                     place,
                     output,
                     at,
-                    m,
-                    g,
+                    numbers,
                     EepromPlace(recipe_address::address_of(input, place)),
                 );
             }
         }
         0x0F => {
             if whole_with_room(input.len(), place, 1, output.len(), at, 12) {
-                put::put(output, at, frame::leave_frame(m, g));
+                put::put(output, at, frame::leave_frame(numbers));
             }
         }
         _ => {}

@@ -4,7 +4,8 @@ ghost use Rattle.base.specs.Parts.{part, patch};
 ghost use Rattle.recipe.specs.Items.{block, row};
 ghost use Rattle.recipe.specs.Frames.{address_frame, data_frame, writes, item_frames, joined};
 
-use memory_address::{EepromPlace, FlashAddress, Group, Module};
+use memory_address::{EepromPlace, FlashAddress};
+use recipe::Numbers;
 
 // Puts a frame into the output at a byte.
 pub fn put(output: &mut [u8], at: usize, frame: [u8; 12])
@@ -18,22 +19,21 @@ pub fn put(output: &mut [u8], at: usize, frame: [u8; 12])
 pub fn put_pair(
     output: &mut [u8],
     at: usize,
-    m: Module,
-    g: Group,
+    numbers: Numbers,
     command: u8,
     address: u32,
     cells: &[u8],
 )
     requires { (at + 24 ≤ length output.old) × (length cells.now ≡ 8) }
     ensures { output.new
-        ≡ patch output.old at (address_frame m.0 g.0 command address ++ data_frame m.0 g.0 cells.now) }
+        ≡ patch output.old at (address_frame numbers.module.0 numbers.group.0 command address ++ data_frame numbers.module.0 numbers.group.0 cells.now) }
 {
     put(
         output,
         at,
-        crate::frame::address_frame(m, g, command, address),
+        crate::frame::address_frame(numbers, command, address),
     );
-    put(output, at + 12, crate::frame::data_frame(m, g, cells));
+    put(output, at + 12, crate::frame::data_frame(numbers, cells));
 }
 
 // Puts the eight writes of a Block, upward, of the 64 bytes that the input has from a byte on.
@@ -42,29 +42,23 @@ pub fn put_writes(
     from: usize,
     output: &mut [u8],
     at: usize,
-    m: Module,
-    g: Group,
+    numbers: Numbers,
     address: u32,
 )
     requires { (from + 64 ≤ length input.now) × (at + 192 ≤ length output.old) × (address < 0x1000000) }
     ensures { output.new
-        ≡ patch output.old at (joined (writes m.0 g.0 8 address (part input.now from 64))) }
+        ≡ patch output.old at (joined (writes numbers.module.0 numbers.group.0 8 address (part input.now from 64))) }
 {
-    let mut row = address;
-    let mut i: usize = 0;
-    while i < 8 {
+    for i in 0..8 {
         let cells = from + 8 * i;
         put_pair(
             output,
             at + 24 * i,
-            m,
-            g,
+            numbers,
             0x02,
-            row,
+            address + 8 * i as u32,
             &input[cells..cells + 8],
         );
-        row += 8;
-        i += 1;
     }
 }
 
@@ -74,19 +68,18 @@ pub fn put_block(
     place: usize,
     output: &mut [u8],
     at: usize,
-    m: Module,
-    g: Group,
+    numbers: Numbers,
     address: FlashAddress,
 )
     requires { (place + 68 ≤ length input.now) × (at + 216 ≤ length output.old) × (address.0 < 0x1000000) }
     ensures { output.new
         ≡ patch output.old at
-        (joined (item_frames m.0 g.0 (block address.0 (part input.now (place + 4) 64)))) }
+        (joined (item_frames numbers.module.0 numbers.group.0 (block address.0 (part input.now (place + 4) 64)))) }
 {
     let blank = [0xFFu8; 8];
     let number = address.0;
-    put_pair(output, at, m, g, 0x03, number, &blank);
-    put_writes(input, place + 4, output, at + 24, m, g, number);
+    put_pair(output, at, numbers, 0x03, number, &blank);
+    put_writes(input, place + 4, output, at + 24, numbers, number);
 }
 
 // Puts the frames of the Row at a place.
@@ -95,15 +88,14 @@ pub fn put_row(
     place: usize,
     output: &mut [u8],
     at: usize,
-    m: Module,
-    g: Group,
+    numbers: Numbers,
     address: EepromPlace,
 )
     requires { (place + 12 ≤ length input.now) × (at + 24 ≤ length output.old) }
     ensures { output.new
         ≡ patch output.old at
-        (joined (item_frames m.0 g.0 (row address.0 (part input.now (place + 4) 8)))) }
+        (joined (item_frames numbers.module.0 numbers.group.0 (row address.0 (part input.now (place + 4) 8)))) }
 {
     let from = place + 4;
-    put_pair(output, at, m, g, 0x02, address.0, &input[from..from + 8]);
+    put_pair(output, at, numbers, 0x02, address.0, &input[from..from + 8]);
 }

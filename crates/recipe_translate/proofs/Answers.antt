@@ -6,12 +6,10 @@ use mathlib.Core.List.{List, ◌++◌}
 use Prim.Native.Nat.{ℕ, ◌*◌, ◌/◌, ◌≤◌, ◌<◌}
 use native.Mathlib.Omega.{arith}
 use lib.ListN.{length, drop}
-use Rattle.recipe.proofs.Answers.{refusal-first, with-room, too_short}
-use Rattle.recipe.specs.declared.Translated.{Translated}
-use Rattle.recipe.specs.declared.Translated.TheVariants.{Frames, Refused}
+use Rattle.recipe.proofs.Answers.{refusal_first, with_room, too_short}
 use Rattle.recipe.specs.Frames.{frames_of, joined, frame_count}
 use Rattle.recipe.specs.Reading.{Stop, at_end, fault, reading, recipe_of}
-use Rattle.recipe.specs.Translation.{answer_at, checked, translated, output_by, translated_output}
+use Rattle.recipe.specs.Translation.{Translated, Frames, Refused, answer_at, checked, translated, output_by, translated_output}
 
 module _ (s : List ℕ) where
   counted : (t : Stop) (k n : ℕ) → answer_at t (length s) k ≡ Frames n → k ≡ n
@@ -20,9 +18,9 @@ module _ (s : List ℕ) where
   counted (fault a b) k n e = cc
 
   -- the count that the check found is the recipe's
-  pub count-found : (n : ℕ) → checked s ≡ Frames n → frame_count (recipe_of s) ≡ n
+  pub count_found : (n : ℕ) → checked s ≡ Frames n → frame_count (recipe_of s) ≡ n
   unfolding checked
-  count-found n e = counted (reading s).stop (frame_count (recipe_of s)) n e
+  count_found n e = counted (reading s).stop (frame_count (recipe_of s)) n e
 
   accepted : (t : Stop) (k n : ℕ) → answer_at t (length s) k ≡ Frames n → t ≡ at_end true
   accepted (at_end true) k n e = refl
@@ -43,26 +41,26 @@ module _ (s : List ℕ) where
     unfolding translated_output
     after r e = ap (λ (x : Translated). output_by x s o) (sym e)
 
-    pub answer-refused : (r : Translated) (k p : ℕ) → r ≡ checked s → r ≡ Refused k p → Answered o (Refused k p) o
-    answer-refused r k p c e =
-        let t = refusal-first s k p (sym c ∙ e) (length o) in
+    pub answer_refused : (k p : ℕ) → Refused k p ≡ checked s → Answered o (Refused k p) o
+    answer_refused k p c =
+        let t = refusal_first s k p (sym c) (length o) in
         (sym t, after (Refused k p) t)
 
-    module _ (r : Translated) (n : ℕ) (c : r ≡ checked s) (e : r ≡ Frames n) where
-      pub answer-short : length o / 12 < n → Answered o (Refused 26 0) o
-      answer-short h =
-          let t = too_short s n (sym c ∙ e) (length o) (omega arith) in
+    module _ (n : ℕ) (c : Frames n ≡ checked s) where
+      pub answer_short : length o / 12 < n → Answered o (Refused 26 0) o
+      answer_short h =
+          let t = too_short s n (sym c) (length o) (omega arith) in
           (sym t, after (Refused 26 0) t)
 
       pub enough : n ≤ length o / 12 → ((reading s).stop ≡ at_end true) × (12 * frame_count (recipe_of s) ≤ length o)
-      enough h = (read_through n (sym c ∙ e), omega (arith, count-found n (sym c ∙ e)))
+      enough h = (read_through n (sym c), omega (arith, count_found n (sym c)))
 
-      pub answer-done : n ≤ length o / 12 → (o₁ : List ℕ)
+      pub answer_done : n ≤ length o / 12 → (o₁ : List ℕ)
           → o₁ ≡ joined (frames_of (recipe_of s)) ++ drop (12 * frame_count (recipe_of s)) o → Answered o (Frames n) o₁
-      answer-done h o₁ q =
-          let t = with-room s n (sym c ∙ e) (length o) (omega arith) in (
+      answer_done h o₁ q =
+          let t = with_room s n (sym c) (length o) (omega arith) in (
             sym t,
             q
-                ∙ ap (λ (k : ℕ). joined (frames_of (recipe_of s)) ++ drop (12 * k) o) (count-found n (sym c ∙ e))
+                ∙ ap (λ (k : ℕ). joined (frames_of (recipe_of s)) ++ drop (12 * k) o) (count_found n (sym c))
                 ∙ after (Frames n) t,
           )

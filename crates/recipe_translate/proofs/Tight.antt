@@ -5,6 +5,7 @@ use contract.Lifetimes.{Lfts}
 use borrow.Fn.World.{ArgsD, ResD}
 use denote.Triple.Clauses.{AtExit}
 use borrow.Fn.Kinds.{ended_of}
+use Rattle.recipe.proofs.Tight.{in_numbers_once}
 use Rattle.recipe_translate.specs.contracts.check.{signature as check-signature}
 use Rattle.recipe_translate.proofs.check.Kinds as check-kinds
 use Rattle.recipe_translate.proofs.check.Reads as check-reads
@@ -15,9 +16,9 @@ use Rattle.recipe_translate.proofs.translate.Reads as translate-reads
 pub check_tight : (κs : Lfts 1) (a : ArgsD check-signature κs) (r r' : ResD check-signature κs)
     (s s' : AtExit (ended_of 1 check-kinds.ps check-kinds.r) κs)
     → check-reads.Post κs a r s → check-reads.Post κs a r' s' → r ≡ r'
-check_tight κs a r r' s s' p q = p.0 ∙ sym q.0
+check_tight κs a r r' s s' p q = in_numbers_once r r' (p.0 ∙ sym q.0)
 
 pub translate_tight : (κs : Lfts 2) (a : ArgsD translate-signature κs) (r r' : ResD translate-signature κs)
     (s s' : AtExit (ended_of 2 translate-kinds.ps translate-kinds.r) κs)
     → translate-reads.Post κs a r s → translate-reads.Post κs a r' s' → (r ≡ r') × (s.1.0.now ≡ s'.1.0.now)
-translate_tight κs a r r' s s' p q = (p.0 ∙ sym q.0, p.1 ∙ sym q.1)
+translate_tight κs a r r' s s' p q = (in_numbers_once r r' (p.0 ∙ sym q.0), p.1 ∙ sym q.1)

@@ -10,16 +10,14 @@ use borrow.Fn.World.{ArgsD, ResD}
 use denote.Triple.Clauses.{AtExit}
 use borrow.Fn.Kinds.{ended_of}
 use lib.ListN.{length, drop}
-use Rattle.recipe.specs.declared.Translated.{Translated}
-use Rattle.recipe.specs.declared.Translated.TheVariants.{Frames, Refused}
 use Rattle.recipe.specs.Items.{Recipe, Legal, printed}
 use Rattle.recipe.specs.Frames.{frames_of, joined, frame_count}
 use Rattle.recipe.specs.Reading.{recipe_of}
-use Rattle.recipe.specs.Translation.{checked, translated, output_by, translated_output}
+use Rattle.recipe.specs.Translation.{Translated, Frames, Refused, checked, in_numbers, translated, output_by, translated_output}
 use Rattle.recipe.proofs.Accepts.{accepts_legal, output_legal, short_output, printed_once}
 use Rattle.recipe.proofs.OnlyLegal.{accepts_only}
 use Rattle.recipe.proofs.Framing.{most_frames}
-use Rattle.recipe.proofs.Answers.{refusal-first}
+use Rattle.recipe.proofs.Answers.{refusal_first}
 use Rattle.recipe_translate.specs.Taken.{BytesIfTaken}
 use Rattle.recipe_translate.specs.contracts.translate.{signature}
 use Rattle.recipe_translate.proofs.translate.Kinds as kinds
@@ -40,7 +38,7 @@ module _ (κs : Lfts 2) (a : ArgsD signature κs) (r : ResD signature κs) (s : 
   -- the translator accepts the bytes of every legal recipe, where the output has room: the count is the sum over the kinds, the output
   -- holds the recipe's frames, and the bytes behind them stay
   pub accepts_every_legal : (q : Recipe) → Legal q → input ≡ printed q → 12 * frame_count q ≤ length before
-      → (r ≡ Frames (frame_count q)) × (after ≡ joined (frames_of q) ++ drop (12 * frame_count q) before)
+      → (in_numbers r ≡ Frames (frame_count q)) × (after ≡ joined (frames_of q) ++ drop (12 * frame_count q) before)
   unfolding translated_output
   accepts_every_legal q legal e room =
       let t : translated input (length before) ≡ Frames (frame_count q) =
@@ -54,7 +52,7 @@ module _ (κs : Lfts 2) (a : ArgsD signature κs) (r : ResD signature κs) (s : 
 
   -- where the output is shorter than needed: 26 at place 0, and it is untouched
   pub refuses_short_output : (q : Recipe) → Legal q → input ≡ printed q → length before < 12 * frame_count q
-      → (r ≡ Refused 26 0) × (after ≡ before)
+      → (in_numbers r ≡ Refused 26 0) × (after ≡ before)
   unfolding translated_output
   refuses_short_output q legal e short =
       let t : translated input (length before) ≡ Refused 26 0 =
@@ -62,7 +60,7 @@ module _ (κs : Lfts 2) (a : ArgsD signature κs) (r : ResD signature κs) (s : 
       (p.0 ∙ t, p.1 ∙ ap (λ (x : Translated). output_by x input before) t)
 
   -- whatever bytes it accepts are those of a legal recipe, and of no other; the count is that recipe's, and at most 36,829
-  pub accepts_only_legal : (count : ℕ) → r ≡ Frames count
+  pub accepts_only_legal : (count : ℕ) → in_numbers r ≡ Frames count
       → Legal (recipe_of input) × (input ≡ printed (recipe_of input)) × ((q : Recipe) → Legal q → input ≡ printed q → q ≡ recipe_of input)
       × (count ≡ frame_count (recipe_of input)) × (count ≤ 36829)
   accepts_only_legal count e =
@@ -76,12 +74,12 @@ module _ (κs : Lfts 2) (a : ArgsD signature κs) (r : ResD signature κs) (s : 
       )
 
   -- no refusal touches the output
-  pub refusal_keeps_output : (number place : ℕ) → r ≡ Refused number place → after ≡ before
+  pub refusal_keeps_output : (number place : ℕ) → in_numbers r ≡ Refused number place → after ≡ before
   unfolding translated_output
   refusal_keeps_output number place e = p.1 ∙ ap (λ (x : Translated). output_by x input before) (sym p.0 ∙ e)
 
   -- a fault that the reading finds is the answer, whatever the output (which fault, and where: the crate recipe's laws, Refusals)
-  pub refuses_fault : (number place : ℕ) → checked input ≡ Refused number place → (r ≡ Refused number place) × (after ≡ before)
+  pub refuses_fault : (number place : ℕ) → checked input ≡ Refused number place → (in_numbers r ≡ Refused number place) × (after ≡ before)
   refuses_fault number place e =
-      let t = p.0 ∙ refusal-first input number place e (length before) in
+      let t = p.0 ∙ refusal_first input number place e (length before) in
       (t, refusal_keeps_output number place t)

@@ -13,12 +13,11 @@ use lib.ListN.{length, drop, get_or}
 use borrow.Author.Tests.{eqb-true}
 use Rattle.base.proofs.Choice.{by_cond, true_or_false}
 use Rattle.recipe_item.specs.Internal.Emitted.{frames_of_kind}
-use Rattle.recipe.specs.declared.Translated.TheVariants.{Frames, Refused}
 use Rattle.recipe.specs.Items.{Item}
 use Rattle.recipe.specs.Frames.{item_count, items_count, frame_count}
 use Rattle.recipe.specs.Faults.{kind_of, body_length, fault_at}
 use Rattle.recipe.specs.Reading.{Reading, Stop, items_at, with_items, reading, recipe_of}
-use Rattle.recipe.specs.Translation.{answer_at, checked}
+use Rattle.recipe.specs.Translation.{Frames, Refused, answer_at, checked}
 use Rattle.recipe_fault.specs.Internal.Steps.{read_on}
 use Rattle.recipe_fault.proofs.Faulting.{kind_at}
 use Rattle.recipe_fault.proofs.Walking.{read_start, on_end, on_fault, at_item, fewer, item_inside}

@@ -12,6 +12,14 @@ pub struct Cursor {
     pub frames: usize,
 }
 
+// The first item, before which nothing stands.
+pub const START: Cursor = Cursor {
+    place: 0,
+    number: 1,
+    ended: false,
+    frames: 0,
+};
+
 // The cursor behind the item that it stands at. It reads the input, which so is known to hold bytes.
 pub fn next(input: &[u8], c: Cursor) -> Cursor
     requires { AtCursor input.now c }

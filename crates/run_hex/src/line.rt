@@ -5,21 +5,20 @@ use std::io::Write;
 // What a line says beside the text's place in the stream.
 #[derive(Clone, Copy)]
 pub struct Line {
-    pub number: u64,
-    pub value: u64,
+    pub number: u8,
+    pub value: usize,
     pub output: u64,
 }
 
-// A word and a number.
-fn tell<W: Write>(printer: &mut W, word: &str, n: u64) -> io::Result<()> {
-    write!(printer, "{word}{n}")
-}
-
 // Prints the line of the text with this place in the stream, from 1.
-pub fn print<W: Write>(printer: &mut W, at: u64, l: Line) -> io::Result<()> {
-    tell(printer, "hex ", at)?;
-    tell(printer, " number ", l.number)?;
-    tell(printer, " value ", l.value)?;
-    tell(printer, " output ", l.output)?;
-    writeln!(printer)
+pub fn print<W: Write>(printer: &mut W, at: u64, line: Line) -> io::Result<()> {
+    let Line {
+        number,
+        value,
+        output,
+    } = line;
+    writeln!(
+        printer,
+        "hex {at} number {number} value {value} output {output}"
+    )
 }

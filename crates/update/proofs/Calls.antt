@@ -14,12 +14,11 @@ use Rattle.node_rules.specs.Step.{Step}
 use Rattle.node_rules.specs.Runs.{State, end_of, behind_frame}
 use Rattle.node.specs.Calls.{CanFrames}
 use Rattle.node.proofs.Calls.{frames_said}
-use Rattle.recipe.specs.declared.Translated.{Translated}
-use Rattle.recipe.specs.declared.Translated.TheVariants.{Frames, Refused}
 use Rattle.recipe.specs.Items.{Recipe, Legal, printed}
 use Rattle.recipe.specs.Frames.{frames_of, frame_count}
 use Rattle.recipe.specs.Reading.{recipe_of}
 use Rattle.recipe.specs.Plain.{Memories}
+use Rattle.recipe.specs.Translation.{Translated, Frames, Refused}
 use Rattle.update_rules.specs.Delivery.{told_all, delivery, delivered, Delivers}
 use Rattle.update_rules.specs.Updated.{Ready, over, Full, Arrived}
 use Rattle.update_rules.proofs.DemandThree.{delivery_arrives}

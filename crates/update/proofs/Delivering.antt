@@ -11,9 +11,7 @@ use Rattle.memory_address.proofs.Laws.{rim_protected}
 use Rattle.memory_cells.specs.Spared.{Spared}
 use Rattle.node_rules.specs.declared.Node.{Node}
 use Rattle.node_rules.specs.Runs.{state}
-use Rattle.recipe.specs.declared.Translated.{Translated}
-use Rattle.recipe.specs.declared.Translated.TheVariants.{Frames, Refused}
-use Rattle.recipe.specs.Translation.{translated, output_by}
+use Rattle.recipe.specs.Translation.{Translated, Frames, Refused, translated, output_by}
 use Rattle.update_rules.specs.Delivery.{delivered}
 use Rattle.update_rules.proofs.Deliveries.{all_delivered, delivery_keeps, delivery_spares}
 use Rattle.update_deliver.specs.Taken.{first_frames}

@@ -16,17 +16,15 @@ use Rattle.node_rules.specs.Record.{tidied}
 use Rattle.node_rules.specs.Uart.{UartStep}
 use Rattle.node_rules.specs.Runs.{State, state, end_of, behind_byte, bytes_in}
 use Rattle.node_rules.proofs.Tidying.{tidy_twice, mode_tidy}
-use Rattle.node_piece_rules.specs.declared.PieceAnswer.{PieceAnswer}
-use Rattle.node_piece_rules.specs.Piece.{PieceStep, takes_none, but_tens, taken_in_all, lasts_of, NoneRefused, NoneEmpty}
+use Rattle.node_piece_rules.specs.Piece.{PieceAnswer, PieceStep, takes_none, but_tens, taken_in_all, lasts_of, NoneRefused, NoneEmpty}
 use Rattle.node_piece_rules.proofs.Cutting.{tidied_state, EachHeard}
 use Rattle.node.specs.Calls.{UartPiece, UartPieces, none, more}
 use Rattle.node.proofs.Cutting.{left_over, cut, stays_tidy, heard_throughout, heard_next}
 use Rattle.node.proofs.Pieces.{uart_piece_is_tidy}
-use Rattle.recipe.specs.declared.Translated.{Translated}
-use Rattle.recipe.specs.declared.Translated.TheVariants.{Frames}
 use Rattle.recipe.specs.Items.{Recipe, Legal, printed}
 use Rattle.recipe.specs.Frames.{frames_of, joined, frame_count}
 use Rattle.recipe.specs.Plain.{Memories}
+use Rattle.recipe.specs.Translation.{Translated, Frames}
 use Rattle.recipe.proofs.Framing.{frames_twelve}
 use Rattle.update_rules.specs.Delivery.{Delivery}
 use Rattle.update_rules.specs.Mirror.{answers_of}

@@ -12,11 +12,10 @@ use Rattle.node_rules.specs.Uart.{UartStep}
 use Rattle.node_rules.specs.Runs.{State, state, end_of, behind_byte}
 use Rattle.node.specs.Calls.{UartBytes}
 use Rattle.node.proofs.Calls.{bytes_said}
-use Rattle.recipe.specs.declared.Translated.{Translated}
-use Rattle.recipe.specs.declared.Translated.TheVariants.{Frames}
 use Rattle.recipe.specs.Items.{Recipe, Legal, printed}
 use Rattle.recipe.specs.Frames.{frames_of, joined, frame_count, Twelve}
 use Rattle.recipe.specs.Plain.{Memories}
+use Rattle.recipe.specs.Translation.{Translated, Frames}
 use Rattle.recipe.proofs.Framing.{frames_twelve}
 use Rattle.update_rules.specs.Delivery.{Delivery, delivery}
 use Rattle.update_rules.specs.Serial.{told_all_on_uart, fed, wrapped_all, OpenPort}

@@ -5,12 +5,10 @@ use mathlib.Core.Path.{◌≡◌, ◌∙◌, ap}
 use mathlib.Core.List.{List, ◌++◌}
 use Prim.Native.Nat.{ℕ, ◌*◌, ◌≤◌, ◌<◌}
 use lib.ListN.{length, drop}
-use Rattle.recipe.specs.declared.Translated.{Translated}
-use Rattle.recipe.specs.declared.Translated.TheVariants.{Frames, Refused}
 use Rattle.recipe.specs.Items.{Recipe, Legal, printed}
 use Rattle.recipe.specs.Frames.{frames_of, joined, frame_count}
 use Rattle.recipe.specs.Reading.{recipe_of}
-use Rattle.recipe.specs.Translation.{translated_number, translated_value, checked}
+use Rattle.recipe.specs.Translation.{Translated, Frames, Refused, translated_number, translated_value, checked}
 use Rattle.recipe_translate.proofs.Translating.{accepts_every_legal, refuses_short_output, accepts_only_legal, refuses_fault}
 use Rattle.update.specs.Calls.{Translate, call}
 

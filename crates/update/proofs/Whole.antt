@@ -11,14 +11,12 @@ use lib.ListN.{length, drop}
 use Rattle.base.proofs.Choice.{by_cond}
 use Rattle.node_rules.specs.declared.Node.{Node}
 use Rattle.node_rules.specs.Runs.{state}
-use Rattle.recipe.specs.declared.Translated.{Translated}
-use Rattle.recipe.specs.declared.Translated.TheVariants.{Frames, Refused}
 use Rattle.recipe.specs.Items.{Recipe, Legal, printed}
 use Rattle.recipe.specs.Frames.{frames_of, joined, frame_count}
 use Rattle.recipe.specs.Plain.{Memories}
-use Rattle.recipe.specs.Translation.{checked, translated}
+use Rattle.recipe.specs.Translation.{Translated, Frames, Refused, checked, translated}
 use Rattle.recipe.proofs.Accepts.{accepts_legal, output_legal, short_output}
-use Rattle.recipe.proofs.Answers.{refusal-first}
+use Rattle.recipe.proofs.Answers.{refusal_first}
 use Rattle.update_rules.specs.Delivery.{Delivery, delivered}
 use Rattle.update_rules.specs.Mirror.{answers_of}
 use Rattle.update_deliver.specs.Delivering.{Left, room_for, left, left_by, deliver_by, deliver_step}
@@ -89,7 +87,7 @@ module _ {recipe frames answers : List ℕ} {n : Node} {m : Memories} {l : Left}
   deliver_refuses number place e =
       deliver_said delivers
       ∙ ap (λ (t : Translated). deliver_by t recipe n m.flash m.eeprom frames answers)
-      (refusal-first recipe number place e (room_for (length frames) (length answers)))
+      (refusal_first recipe number place e (room_for (length frames) (length answers)))
 
   -- frames or answers too short for a legal recipe: 26 at place 0, and nothing is touched
   pub deliver_short : (q : Recipe) → Legal q → recipe ≡ printed q

@@ -4,10 +4,10 @@ use Rattle.node_rules.specs.declared.Mode.TheVariants.{Waiting}
 use Rattle.node_rules.specs.declared.Node.{Node}
 use Rattle.node_rules.specs.Record.{with_mode, tidied}
 use Rattle.node_rules.specs.Runs.{State}
-use Rattle.recipe.specs.declared.Translated.TheVariants.{Frames, Refused}
 use Rattle.recipe.specs.Items.{Recipe}
 use Rattle.recipe.specs.Frames.{frames_of, joined, frame_count}
 use Rattle.recipe.specs.Plain.{Memories, plainly}
+use Rattle.recipe.specs.Translation.{Frames, Refused}
 use Rattle.update_rules.specs.Mirror.{answers_of}
 use Rattle.update_rules.specs.Serial.{serially, wrapped_told}
 use Rattle.update_rules.specs.Updated.{Arrived}

@@ -4,8 +4,7 @@
 use mathlib.Core.Path.{◌≡◌, ◌∙◌, refl, sym, ap}
 use mathlib.Core.Bool.{Bool, true, false, cond}
 use mathlib.Core.List.{List, ◌++◌, append_assoc}
-use Prim.Native.Nat.{ℕ, ◌-◌, ◌*◌, ◌/◌, ◌≤◌}
-use native.Mathlib.Nat.{sub-zero}
+use Prim.Native.Nat.{ℕ, ◌*◌, ◌/◌, ◌≤◌}
 use native.Mathlib.Omega.{arith}
 use lib.Dec.{ltb}
 use lib.ListN.{length, take, drop, length-append, take-append-drop}
@@ -13,12 +12,10 @@ use lib.Seq.{length-take-le, drop-append-le}
 use borrow.Author.Tests.{ltb-true, ltb-false}
 use Rattle.base.proofs.Choice.{by_cond}
 use Rattle.node_rules.specs.declared.Node.{Node}
-use Rattle.recipe.specs.declared.Translated.{Translated}
-use Rattle.recipe.specs.declared.Translated.TheVariants.{Frames, Refused}
 use Rattle.recipe.specs.Frames.{frames_of, joined}
 use Rattle.recipe.specs.Reading.{recipe_of}
-use Rattle.recipe.specs.Translation.{unless_short, checked, translated, output_by, translated_output}
-use Rattle.update_deliver.specs.Delivering.{room_for, left, deliver_by, deliver_step}
+use Rattle.recipe.specs.Translation.{Translated, Frames, Refused, unless_short, checked, translated, output_by, translated_output}
+use Rattle.update_deliver.specs.Delivering.{told_count, room_for, left, deliver_by, deliver_step}
 use Rattle.update_deliver.specs.Internal.Handing.{handed, handed_over, after_hand_over}
 
 -- the room lies within the frames, and within the answers at 14 bytes a frame
@@ -66,12 +63,12 @@ module _ (input : List ℕ) (n : Node) (flash eeprom frames answers : List ℕ) 
 
   -- the room that the translator was lent, its answer, and its output
   module _ (room : ℕ) (t : Translated) (output : List ℕ) (r : room ≡ room_for (length frames) (length answers))
-      (e : t ≡ translated input (length (take (room - 0) frames))) (o : output ≡ translated_output input (take (room - 0) frames)) where
+      (e : t ≡ translated input (length (take room frames))) (o : output ≡ translated_output input (take room frames)) where
     inside : room ≤ length frames
     inside = rw r (room_within (length frames) (length answers)).0
 
-    lent : length (take (room - 0) frames) ≡ room
-    lent = ap (λ (k : ℕ). length (take k frames)) (sub-zero room) ∙ length-take-le room frames inside
+    lent : length (take room frames) ≡ room
+    lent = length-take-le room frames inside
 
     is_answer : translated input room ≡ t
     is_answer = ap (translated input) (sym lent) ∙ sym e
@@ -79,37 +76,38 @@ module _ (input : List ℕ) (n : Node) (flash eeprom frames answers : List ℕ) 
     is_step : translated input (room_for (length frames) (length answers)) ≡ t
     is_step = ap (translated input) (sym r) ∙ is_answer
 
-    frames_are : output ++ drop (room - 0) frames ≡ output_by t input frames
+    frames_are : output ++ drop room frames ≡ output_by t input frames
     frames_are =
-        ap (λ (x : List ℕ). x ++ drop (room - 0) frames) o
-        ∙ ap (λ (k : ℕ). translated_output input (take k frames) ++ drop k frames) (sub-zero room)
+        ap (λ (x : List ℕ). x ++ drop room frames) o
         ∙ frames_after room inside t is_answer
 
     pub step_refused : (number place : ℕ) → t ≡ Refused number place
-        → left (record { translated = Refused number place; node = n; count = 0 }) flash eeprom (output ++ drop (room - 0) frames) answers
+        → left (record { translated = t; node = n; count = told_count t }) flash eeprom (output ++ drop room frames) answers
         ≡ deliver_step input n flash eeprom frames answers
     unfolding deliver_step
     step_refused number place h =
-        ap (λ (fs : List ℕ). left (record { translated = Refused number place; node = n; count = 0 }) flash eeprom fs answers)
+        ap (λ (x : Translated).
+        left (record { translated = x; node = n; count = told_count x }) flash eeprom (output ++ drop room frames) answers) h
+        ∙ ap (λ (fs : List ℕ). left (record { translated = Refused number place; node = n; count = 0 }) flash eeprom fs answers)
         (frames_are ∙ ap (λ (x : Translated). output_by x input frames) h)
         ∙ ap (λ (x : Translated). deliver_by x input n flash eeprom frames answers) (sym (is_step ∙ h))
 
     module _ (count : ℕ) (h : t ≡ Frames count) where
-      pub step_fits : length output ≡ length (take (room - 0) frames)
-          → (12 * count ≤ length (output ++ drop (room - 0) frames)) × (14 * count ≤ length answers)
+      pub step_fits : length output ≡ length (take room frames)
+          → (12 * count ≤ length (output ++ drop room frames)) × (14 * count ≤ length answers)
       step_fits l =
           let fits = accepted_fits input room count (is_answer ∙ h) in
           let most = (room_within (length frames) (length answers)).1 in
           (simp length-append (omega (arith, l, lent)), omega arith)
 
       pub step_done : (n' : Node) (flash' eeprom' answers' : List ℕ)
-          → handed n' flash' eeprom' answers' ≡ handed_over count (output ++ drop (room - 0) frames) n flash eeprom answers
-          → left (record { translated = Frames count; node = n'; count = count }) flash' eeprom' (output ++ drop (room - 0) frames) answers'
+          → handed n' flash' eeprom' answers' ≡ handed_over count (output ++ drop room frames) n flash eeprom answers
+          → left (record { translated = Frames count; node = n'; count = count }) flash' eeprom' (output ++ drop room frames) answers'
           ≡ deliver_step input n flash eeprom frames answers
       unfolding deliver_step handed_over
       step_done n' flash' eeprom' answers' k =
-          let same : output ++ drop (room - 0) frames ≡ output_by (Frames count) input frames =
+          let same : output ++ drop room frames ≡ output_by (Frames count) input frames =
           frames_are ∙ ap (λ (x : Translated). output_by x input frames) h in
-          ap (after_hand_over count (output ++ drop (room - 0) frames)) k
+          ap (after_hand_over count (output ++ drop room frames)) k
           ∙ ap (λ (fs : List ℕ). after_hand_over count fs (handed_over count fs n flash eeprom answers)) same
           ∙ ap (λ (x : Translated). deliver_by x input n flash eeprom frames answers) (sym (is_step ∙ h))

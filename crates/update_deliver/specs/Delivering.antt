@@ -1,17 +1,34 @@
 -- What `deliver` leaves: the translation, and then the delivery of the frames that it wrote.
 use Rattle.std.specs.Prelude.{ℕ, ◌*◌, ◌/◌, cond, List, ◌++◌, ltb, length, drop}
 use Rattle.node_rules.specs.declared.Node.{Node}
-use Rattle.recipe.specs.declared.Translated.{Translated}
-use Rattle.recipe.specs.declared.Translated.TheVariants.{Frames, Refused}
 use Rattle.recipe.specs.Frames.{joined}
-use Rattle.recipe.specs.Translation.{translated, output_by}
-use Rattle.update_deliver.specs.declared.Delivered.{Delivered}
+use Rattle.recipe.specs.Translation.{Translated, Frames, Refused, in_numbers, translated, output_by}
+use Rattle.update_deliver.specs.declared.Delivered.{Delivered as Answered}
 use Rattle.update_rules.specs.Delivery.{Delivery, delivered}
 use Rattle.update_deliver.specs.Taken.{first_frames}
 
 -- the room for frames: no more than are lent, and no more than the answers have room for, 14 bytes a frame
 unfoldable pub room_for : ℕ → ℕ → ℕ
 room_for frames answers = cond (ltb (12 * (answers / 14)) frames) (12 * (answers / 14)) frames
+
+-- what a delivery answers: the translator's answer, the node afterwards, and how many answers were told
+pub record Delivered : Type 0 where
+  pub translated : Translated
+  pub node : Node
+  pub count : ℕ
+
+-- for each frame an answer is told
+abbrev pub told_count : Translated → ℕ
+told_count (Refused number place) = 0
+told_count (Frames count) = count
+
+-- what the code answers, in document 01's numbers
+abbrev pub delivered_in_numbers : Answered → Delivered
+delivered_in_numbers d = record {
+  translated = in_numbers d.translated;
+  node = d.node;
+  count = told_count (in_numbers d.translated);
+}
 
 -- all that a call leaves
 pub record Left : Type 0 where

@@ -27,16 +27,12 @@ pub fn hand_over(
         ≡ handed_over count frames.now node flash.old eeprom.old answers.old }
 {
     let mut n = node;
-    let mut at: usize = 0;
-    let mut to: usize = 0;
-    let mut left = count;
-    while 0 < left {
+    for i in 0..count {
+        let at = 12 * i;
+        let to = 14 * i;
         let a = node_can::can_frame(n, &frames[at..at + 12], flash, eeprom);
         put(answers, to, update_telling::telling(a));
         n = a.node;
-        at += 12;
-        to += 14;
-        left -= 1;
     }
     n
 }

@@ -5,28 +5,23 @@
 mod handing;
 
 ghost use Rattle.std.specs.Prelude.{◌≡◌, length};
-ghost use Rattle.update_deliver.specs.Delivering.{room_for, left, deliver_step};
+ghost use Rattle.update_deliver.specs.Delivering.{delivered_in_numbers, room_for, left, deliver_step};
 
 use node_rules::Node;
-use recipe::Translated;
+use recipe::Refusal;
 
-// What a delivery answers: the translator's answer, the node afterwards, and how many answers were told.
+// What a delivery answers: the translator's answer, and the node afterwards. As many answers were told as frames came of the recipe.
 #[derive(Clone, Copy)]
 pub struct Delivered {
-    pub translated: Translated,
+    pub translated: Result<usize, Refusal>,
     pub node: Node,
-    pub count: usize,
 }
 
 // The bytes of `frames` bytes that may hold frames, where `answers` bytes hold 14 for each.
 fn room(frames: usize, answers: usize) -> usize
     ensures { result ≡ room_for frames answers }
 {
-    let most = 12 * (answers / 14);
-    if most < frames {
-        return most;
-    }
-    frames
+    frames.min(12 * (answers / 14))
 }
 
 // Translates a recipe into the lent frames and hands them to the node one by one, as CAN frames, with nothing else in between. For each
@@ -40,27 +35,17 @@ pub fn deliver(
     frames: &mut [u8],
     answers: &mut [u8],
 ) -> Delivered
-    ensures { left result flash.new eeprom.new frames.new answers.new
+    ensures { left (delivered_in_numbers result) flash.new eeprom.new frames.new answers.new
         ≡ deliver_step recipe.now node flash.old eeprom.old frames.old answers.old }
 {
     let most = room(frames.len(), answers.len());
-    let translated = recipe_translate::translate(recipe, &mut frames[0..most]);
-    match translated {
-        Translated::Refused { number, place } => Delivered {
-            translated: Translated::Refused {
-                number: number,
-                place: place,
-            },
-            node: node,
-            count: 0,
-        },
-        Translated::Frames(count) => {
-            let after = handing::hand_over(node, frames, count, flash, eeprom, answers);
-            Delivered {
-                translated: Translated::Frames(count),
-                node: after,
-                count: count,
-            }
-        }
+    let translated = recipe_translate::translate(recipe, &mut frames[..most]);
+    let after = match translated {
+        Ok(count) => handing::hand_over(node, frames, count, flash, eeprom, answers),
+        Err(_) => node,
+    };
+    Delivered {
+        translated,
+        node: after,
     }
 }

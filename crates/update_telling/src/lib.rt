@@ -3,16 +3,21 @@
 
 ghost use Rattle.std.specs.Prelude.{◌≡◌};
 ghost use Rattle.update_rules.specs.Delivery.{told};
+ghost use Rattle.node_rules.specs.InNumbers.{answer_in_numbers};
 
 use node_rules::Answer;
 
-// The number, how many replies, and the 12 bytes of the first (0 where there is none).
-pub fn telling(a: Answer) -> [u8; 14]
-    ensures { result ≡ told a }
+// The number of a refusal, or 0; how many replies; and the 12 bytes of the first (0 where there is none).
+pub fn telling(a: Answer<24>) -> [u8; 14]
+    ensures { result ≡ told (answer_in_numbers a) }
 {
-    let reply = a.replies;
-    [
-        a.number, a.count, reply[0], reply[1], reply[2], reply[3], reply[4], reply[5], reply[6],
-        reply[7], reply[8], reply[9], reply[10], reply[11],
-    ]
+    let mut told = [0; 14];
+    match a.outcome {
+        Ok(replies) => {
+            told[1] = replies.count;
+            told[2..].copy_from_slice(&replies.bytes[..12]);
+        }
+        Err(refusal) => told[0] = refusal.number(),
+    }
+    told
 }

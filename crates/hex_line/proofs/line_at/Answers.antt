@@ -1,86 +1,48 @@
--- `hex_line::line_at` meets its contract: each bad return is a test that a first line in form would pass, and behind all of them the
--- characters that were read are the first line.
+-- `hex_line::line_at` meets its contract: where it answers none, a first line in form would pass the test that failed, and behind all of
+-- them the characters that were read are the first line.
 -- Assumes nothing.
 use native.Mathlib.Omega.{arith}
-use Rattle.hex_line.specs.Internal.Reading.{digit_table}
-use Rattle.hex_line.proofs.Found.{found_bad, over, inside, short, open_ended, next_fits, no_digits, other_count, found_good}
-use borrow.Author.Rules.{rules}
-use borrow.Author.Tests.{not-true, not-false}
+use mathlib.Core.Path.{◌∙◌}
+use Rattle.hex_line.proofs.Found.{no_rest, no_count, short, no_ending, no_digits, other_count, next_fits, found}
 use Rattle.hex_line.proofs.line_at.Goals as goal
 
-pub count_at-count-requires : goal.count_at-count-requires
-unfolding digit_table
-count_at-count-requires c = search rules
+pub returns-in_err-rest : goal.returns-in_err-rest
+returns-in_err-rest c = c.from_residual.ensures ∙ no_rest _ _ (omega (arith, c.in_err-rest.ensures.lookup))
 
-pub returns-then-count-gt255 : goal.returns-then-count-gt255
-returns-then-count-gt255 c =
-    let a = c.args in
-    let n = c.count_at-count in
-    found_bad a.text.now a.at _ c.bad_line.ensures (over a.text.now a.at n.result n.ensures (omega arith))
+pub returns-in_err-count : goal.returns-in_err-count
+returns-in_err-count c =
+    c.from_residual-in_err-count.ensures
+    ∙ no_count c.args.text.now c.args.at _ c.in_ok-rest.ensures.lookup.0.2 c.in_err-count.ensures
 
-pub overflow_sub-text : goal.overflow_sub-text
-overflow_sub-text c =
-    let a = c.args in
-    let n = c.count_at-count in
-    let h = inside a.text.now a.at n.result n.ensures (omega arith) in
-    omega arith
+pub returns-in_err-digits : goal.returns-in_err-digits
+returns-in_err-digits c =
+    c.from_residual-in_err-digits.ensures
+    ∙ short c.args.text.now c.args.at _ c.in_ok-rest.ensures.lookup.0.2 _ c.in_ok-count.ensures (omega (arith, c.in_err-digits.ensures.lookup))
 
-pub returns-then-text-at : goal.returns-then-text-at
-returns-then-text-at c =
-    let a = c.args in
-    let n = c.count_at-count in
-    found_bad a.text.now a.at _ c.bad_line-then-text-at.ensures
-    (short a.text.now a.at n.result n.ensures c.if-text-at.true)
+pub returns-in_err-ending : goal.returns-in_err-ending
+returns-in_err-ending c =
+    c.from_residual-in_err-ending.ensures
+    ∙ no_ending c.args.text.now c.args.at _ c.in_ok-rest.ensures.lookup.0.2 _ c.in_ok-count.ensures c.in_err-ending.ensures
 
-pub returns-then-ending-eq3 : goal.returns-then-ending-eq3
-returns-then-ending-eq3 c =
-    let a = c.args in
-    let n = c.count_at-count in
-    let e = c.ending_at-ending in
-    found_bad a.text.now a.at _ c.bad_line-then-ending-eq3.ensures
-    (open_ended a.text.now a.at n.result n.ensures e.result e.ensures c.if-ending-eq3.true)
-
-pub pairs_of-pairs-requires : goal.pairs_of-pairs-requires
-unfolding digit_table
-pairs_of-pairs-requires c = search rules
-
-pub returns-then-not-pairs : goal.returns-then-not-pairs
-returns-then-not-pairs c =
-    let a = c.args in
-    let n = c.count_at-count in
-    let e = c.ending_at-ending in
-    let p = c.pairs_of-pairs in
-    found_bad a.text.now a.at _ c.bad_line-then-not-pairs.ensures
-    (no_digits a.text.now a.at n.result n.ensures e.result e.ensures p.result p.ensures
-    (not-true _ c.if-not-pairs.true))
+pub returns-in_err-bytes : goal.returns-in_err-bytes
+returns-in_err-bytes c =
+    c.from_residual-in_err-bytes.ensures
+    ∙ no_digits c.args.text.now c.args.at _ c.in_ok-rest.ensures.lookup.0.2 _ c.in_ok-count.ensures _ c.in_ok-digits.ensures.lookup.0.2
+    c.in_err-bytes.ensures
 
 pub returns-then-bad_count : goal.returns-then-bad_count
 returns-then-bad_count c =
-    let a = c.args in
-    let n = c.count_at-count in
-    let e = c.ending_at-ending in
-    let p = c.pairs_of-pairs in
-    let t = c.bad_count in
-    found_bad a.text.now a.at _ c.bad_line-then-bad_count.ensures
-    (other_count a.text.now a.at n.result n.ensures e.result e.ensures p.result p.ensures
-    (not-false _ c.if-not-pairs.false) t.result t.ensures c.if-bad_count.true)
+    other_count c.args.text.now c.args.at _ c.in_ok-rest.ensures.lookup.0.2 _ c.in_ok-count.ensures _ c.in_ok-digits.ensures.lookup.0.2
+    _ c.in_ok-bytes.ensures _ c.bad_count.ensures c.if-bad_count.true
 
-pub overflow_add-next : goal.overflow_add-next
-overflow_add-next c =
-    let a = c.args in
-    let n = c.count_at-count in
-    let e = c.ending_at-ending in
-    let h = next_fits a.text.now a.at n.result n.ensures e.result e.ensures (omega arith)
-    c.if-ending-eq3.false in
+pub overflow_add-result-2 : goal.overflow_add-result-2
+overflow_add-result-2 c =
+    let h =
+    next_fits c.args.text.now c.args.at _ c.in_ok-rest.ensures.lookup.0.2 _ c.in_ok-count.ensures _ c.in_ok-digits.ensures.lookup.0.2
+    _ c.in_ok-bytes.ensures _ c.bad_count.ensures _ c.in_ok-digits.ensures.lookup.0.1 c.in_ok-ending.ensures c.if-bad_count.false in
     omega arith
 
 pub returns : goal.returns
 returns c =
-    let a = c.args in
-    let n = c.count_at-count in
-    let e = c.ending_at-ending in
-    let p = c.pairs_of-pairs in
-    let t = c.bad_count in
-    found_good a.text.now a.at n.result n.ensures e.result e.ensures p.result p.ensures
-    (not-false _ c.if-not-pairs.false) t.result t.ensures (omega arith) (omega arith)
-    c.if-ending-eq3.false c.if-bad_count.false
+    found c.args.text.now c.args.at _ c.in_ok-rest.ensures.lookup.0.2 _ c.in_ok-count.ensures _ c.in_ok-digits.ensures.lookup.0.2
+    _ c.in_ok-bytes.ensures _ c.bad_count.ensures _ c.in_ok-digits.ensures.lookup.0.1 c.in_ok-ending.ensures c.if-bad_count.false

@@ -2,33 +2,40 @@
 -- Assumes nothing.
 use mathlib.Core.Path.{refl}
 use mathlib.Core.List.{[], ◌∷◌}
-use Rattle.hex_put.proofs.Whole.{blocks, rows, bytes_parts, blocks_inside, rows_inside, first_room, second_room, fourth}
+use Rattle.hex_put.proofs.Whole.{blocks_put, rows_put, bytes_parts, blocks_many, rows_many, blocks_items, rows_items, first_room, second_room, fourth}
 use native.Mathlib.Omega.{arith}
 use Rattle.hex_put.proofs.put_recipe.Goals as goal
 
-pub put_items-rows-requires : goal.put_items-rows-requires
-put_items-rows-requires c =
+pub put_items-behind-requires : goal.put_items-behind-requires
+put_items-behind-requires c =
     let a = c.args in
-    let room = rw (bytes_parts a.m.0 a.g.0 a.table.now) at c.requires.1 in (
-      blocks_inside a.table.now c.requires.0,
+    let head = 0x01 ∷ a.numbers.module.0 ∷ a.numbers.group.0 ∷ [] in
+    let room = rw (bytes_parts a.numbers.module.0 a.numbers.group.0 a.blocks.now a.rows.now) at c.requires.2 in (
+      blocks_items a.blocks.now c.requires.0,
       omega arith,
-      first_room a.output.now (0x01 ∷ a.m.0 ∷ a.g.0 ∷ []) (blocks a.table.now) (rows a.table.now) (0x0F ∷ []) room _ c.put.ensures 3 refl,
+      rw (blocks_many a.blocks.now c.requires.0)
+          (first_room a.output.now head (blocks_put a.blocks.now) (rows_put a.rows.now) (0x0F ∷ []) room _ c.put.ensures 3 refl),
     )
 
 pub put_items-last-requires : goal.put_items-last-requires
 put_items-last-requires c =
     let a = c.args in
-    let room = rw (bytes_parts a.m.0 a.g.0 a.table.now) at c.requires.1 in (
-      rows_inside a.table.now c.requires.0,
+    let head = 0x01 ∷ a.numbers.module.0 ∷ a.numbers.group.0 ∷ [] in
+    let room = rw (bytes_parts a.numbers.module.0 a.numbers.group.0 a.blocks.now a.rows.now) at c.requires.2 in
+    let b = rw (blocks_many a.blocks.now c.requires.0) at c.put_items-behind.ensures in (
+      rows_items a.rows.now c.requires.1,
       omega arith,
-      second_room a.output.now (0x01 ∷ a.m.0 ∷ a.g.0 ∷ []) (blocks a.table.now) (rows a.table.now) (0x0F ∷ []) room _ c.put.ensures _ 3 refl c.put_items-rows.ensures.1 _ c.put_items-rows.ensures.0,
+      rw (rows_many a.rows.now c.requires.1)
+          (second_room a.output.now head (blocks_put a.blocks.now) (rows_put a.rows.now) (0x0F ∷ []) room _ c.put.ensures _ 3 refl b.1 _ b.0),
     )
 
 pub returns : goal.returns
 returns c =
     let a = c.args in
-    let room = rw (bytes_parts a.m.0 a.g.0 a.table.now) at c.requires.1 in
-    rw (bytes_parts a.m.0 a.g.0 a.table.now)
-    (fourth a.output.now (0x01 ∷ a.m.0 ∷ a.g.0 ∷ []) (blocks a.table.now) (rows a.table.now) (0x0F ∷ []) room _
-    c.put.ensures _ 3 refl c.put_items-rows.ensures.1 _ _ c.put_items-rows.ensures.0 c.put_items-last.ensures.1 _ _
-    c.put_items-last.ensures.0 c.put-2.ensures)
+    let head = 0x01 ∷ a.numbers.module.0 ∷ a.numbers.group.0 ∷ [] in
+    let room = rw (bytes_parts a.numbers.module.0 a.numbers.group.0 a.blocks.now a.rows.now) at c.requires.2 in
+    let b = rw (blocks_many a.blocks.now c.requires.0) at c.put_items-behind.ensures in
+    let r = rw (rows_many a.rows.now c.requires.1) at c.put_items-last.ensures in
+    rw (bytes_parts a.numbers.module.0 a.numbers.group.0 a.blocks.now a.rows.now)
+    (fourth a.output.now head (blocks_put a.blocks.now) (rows_put a.rows.now) (0x0F ∷ []) room _ c.put.ensures _ 3 refl b.1 _ _ b.0 r.1 _ _ r.0
+    c.put-2.ensures)

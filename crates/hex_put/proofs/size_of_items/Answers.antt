@@ -1,42 +1,37 @@
--- `hex_put::size_of_items` meets its contract. The loop keeps the size of i items.
+-- `hex_put::size_of_items` meets its contract. The loop keeps the size of the items so far.
 -- Assumes nothing.
-use mathlib.Core.Path.{◌≡◌}
-use Prim.Native.Nat.{◌-◌, ◌+◌}
-use Rattle.hex_put.proofs.Putting.{sized_start, sized_next, sized_end, item_inside}
+use mathlib.Core.Path.{◌≡◌, ◌∙◌, ap}
+use mathlib.Core.List.{List, [], ◌∷◌}
+use Prim.Native.Nat.{ℕ, ◌*◌, ◌+◌, ◌/◌}
+use lib.ListN.{length, length-append}
+use Rattle.hex_put.specs.Internal.Table.{touched_bytes}
+use Rattle.hex_put.proofs.Putting.{along_item, along_more, along_next, along_end, sized_next, sized_end}
 use native.Mathlib.Omega.{arith}
 use Rattle.hex_put.proofs.size_of_items.Goals as goal
 
-pub loop-i-init : goal.loop-i-init
-loop-i-init c = let a = c.args in sized_start a.table.now a.size a.count a.from
-
-pub overflow_add-end : goal.overflow_add-end
-overflow_add-end c =
-    let a = c.args in
-    let l = c.loop-i in
-    omega (arith, item_inside a.from l.i a.count a.size l.at c.loop-i-test.true l.invariant.there c.requires.within)
-
-pub offset_bounds-table-at : goal.offset_bounds-table-at
-offset_bounds-table-at c =
-    let a = c.args in
-    let l = c.loop-i in
-    omega (arith, item_inside a.from l.i a.count a.size l.at c.loop-i-test.true l.invariant.there c.requires.within)
-
-pub slice_bounds-size_of-end : goal.slice_bounds-size_of-end
-slice_bounds-size_of-end c =
-    let a = c.args in
-    let l = c.loop-i in
-    omega (arith, item_inside a.from l.i a.count a.size l.at c.loop-i-test.true l.invariant.there c.requires.within, c.requires.places)
-
-pub loop-i-preserved : goal.loop-i-preserved
-loop-i-preserved c =
-    let a = c.args in
-    let l = c.loop-i in
-    let wide : l.at + a.size - l.at ≡ a.size = omega arith in
-    sized_next a.table.now a.size a.count a.from l.all l.at l.i l.invariant _ c.loop-i-test.true
-    (rw wide at c.size_of-all.ensures.0) c.size_of-all.ensures.1
+pub loop-item-preserved : goal.loop-item-preserved
+loop-item-preserved c =
+    let p = c.args.places.now in
+    let size = c.args.size in
+    let l = c.loop-item in
+    let i = length l.yielded in
+    let s = c.in-Some.ensures.steps in
+    let e = length-append l.yielded (c.in-Some.item ∷ []) in
+    let step : (i + 1) * size ≡ i * size + size = omega arith in
+    rw e (
+      along_next p size l.item-iterator i l.invariant.0 c.next.new.self _ s.0 s.1.0 s.1.1 (i + 1) (omega arith),
+      rw step (sized_next p size (length p / size) 0 l.all (i * size) i l.invariant.1 _
+          (along_more p size l.item-iterator i l.invariant.0 c.next.new.self _ s.0 s.1.0 s.1.1 c.requires.some)
+          (c.size_of-all.ensures.0
+          ∙ ap (λ (x : List ℕ). length (touched_bytes 0 0 x)) (along_item p size l.item-iterator i l.invariant.0 c.next.new.self _ s.0 s.1.0 s.1.1))
+          c.size_of-all.ensures.1),
+    )
 
 pub returns : goal.returns
 returns c =
-    let a = c.args in
-    let l = c.loop-i in
-    (sized_end a.table.now a.size a.count a.from l.all l.at l.i l.invariant c.loop-i-test.false, omega (arith, l.invariant.small, l.invariant.few))
+    let p = c.args.places.now in
+    let size = c.args.size in
+    let l = c.loop-item in
+    let s = c.in-None.ensures.steps in
+    let over = along_end p size l.item-iterator (length l.yielded) l.invariant.0 c.requires.some s.1.0 in
+    (sized_end p size (length p / size) 0 l.all _ (length l.yielded) l.invariant.1 over, omega (arith, l.invariant.1.small, l.invariant.1.few))

@@ -1,19 +1,21 @@
 -- `hex_read::convert` meets its contract, by what reading the text and putting the recipe came to.
 -- Assumes nothing.
-use Rattle.hex_read.proofs.Converts.{reads_refused, reads_taken, text_refused, put_none, put_made}
+use mathlib.Core.Path.{◌∙◌, ap}
+use Rattle.std.proofs.lemmas.Result.{err_from_is_err_and}
+use Rattle.hex_rules.specs.Refusing.{in_numbers}
+use Rattle.hex_read.proofs.Converts.{text_refused, put_answer}
 use Rattle.hex_read.proofs.convert.Goals as goal
 
-pub returns-then-size-eq0 : goal.returns-then-size-eq0
-returns-then-size-eq0 c =
+pub returns-in_err-read_text : goal.returns-in_err-read_text
+returns-in_err-read_text c =
     let a = c.args in
-    put_none a.text.now a.m.0 a.g.0 a.output.now _ (reads_taken c.read_text-outcome.result a.text.now _ c.in-Taken.is c.read_text-outcome.ensures) c.put-size.result _ c.put-size.ensures.0 c.put-size.ensures.1 c.if-size-eq0.true
+    let p = err_from_is_err_and c.from_residual.result c.from_residual.ensures.1 in
+    rw (p.1, p.2) (text_refused a.text.now a.numbers.module.0 a.numbers.group.0 a.output.now _ _ c.in_err-read_text.ensures)
 
-pub returns-in-Refused : goal.returns-in-Refused
-returns-in-Refused c =
+pub returns : goal.returns
+returns c =
     let a = c.args in
-    text_refused a.text.now a.m.0 a.g.0 a.output.now _ _ (reads_refused c.read_text-outcome.result _ _ a.text.now _ c.in-Refused.is c.read_text-outcome.ensures)
-
-pub returns-else-size-eq0 : goal.returns-else-size-eq0
-returns-else-size-eq0 c =
-    let a = c.args in
-    put_made a.text.now a.m.0 a.g.0 a.output.now _ (reads_taken c.read_text-outcome.result a.text.now _ c.in-Taken.is c.read_text-outcome.ensures) c.put-size.result _ c.put-size.ensures.0 c.put-size.ensures.1 c.if-size-eq0.false
+    let r =
+    put_answer a.text.now a.numbers.module.0 a.numbers.group.0 a.output.now _ c.in_ok-read_text.ensures c.put.result _ c.put.ensures.0
+    c.put.ensures.1 in
+    (ap in_numbers c.ok_or.ensures.value ∙ r.0, r.1)

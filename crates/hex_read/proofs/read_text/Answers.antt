@@ -1,70 +1,41 @@
 -- `hex_read::read_text` meets its contract. The loop keeps what the lines so far gave, and that the table marks it.
 -- Assumes nothing.
-use mathlib.Core.Path.{◌∙◌, refl, sym, ap, subst}
-use Prim.Native.Nat.{ℕ, ◌-◌, ◌<◌}
-use Rattle.hex_read.specs.Internal.Judging.{record_fault}
-use lib.ListN.{length, length-replicate}
-use borrow.Author.Tests.{not-true, not-false}
-use Rattle.hex_line.specs.declared.Line.{Line}
-use Rattle.hex_read.proofs.Walking.{kept_start, kept_done, kept_open, kept_bad, kept_fault, kept_line, nearer}
+use mathlib.Core.Path.{refl, sym}
+use Rattle.hex_read.proofs.Answering.{fault_some}
+use Rattle.hex_read.proofs.Walking.{kept_start, kept_done, kept_open, kept_bad, kept_fault, kept_next, nearer}
 use Rattle.hex_read.proofs.read_text.Goals as goal
 
 pub loop-at-init : goal.loop-at-init
 loop-at-init c = kept_start c.args.text.now c.args.table.now c.requires
 
-pub shape_of-table-then-not-line : goal.shape_of-table-then-not-line
-shape_of-table-then-not-line c = c.loop-at.invariant.marks.size ∙ sym (ap length c.requires ∙ length-replicate {A = ℕ} 66560 255)
-
-pub returns-then-not-line : goal.returns-then-not-line
-returns-then-not-line c =
-    let a = c.args in
+pub returns-in_default : goal.returns-in_default
+returns-in_default c =
     let l = c.loop-at in
-    kept_bad a.text.now l.table l.at l.number l.upper l.ended l.invariant c.loop-at-test.true
-    (sym (ap (λ (x : Line). x.good) c.line_at-line.ensures) ∙ not-true _ c.if-not-line.true)
+    kept_bad c.args.text.now l.table l.at l.number l.upper l.ended l.invariant c.loop-at-test.true (sym c.in_default.ensures)
 
-pub shape_of-table-then-fault-ne0 : goal.shape_of-table-then-fault-ne0
-shape_of-table-then-fault-ne0 c = c.fault_of-fault.ensures.2 ∙ sym (ap length c.requires ∙ length-replicate {A = ℕ} 66560 255)
-
-pub returns-then-fault-ne0 : goal.returns-then-fault-ne0
-returns-then-fault-ne0 c =
-    let a = c.args in
+pub returns-in-Err : goal.returns-in-Err
+returns-in-Err c =
     let l = c.loop-at in
-    let line = c.line_at-line.ensures in
-    kept_fault a.text.now l.table l.at l.number l.upper l.ended l.invariant c.loop-at-test.true
-    (sym (ap (λ (x : Line). x.good) line) ∙ not-false _ c.if-not-line.false) c.fault_of-fault.result
-    (c.fault_of-fault.ensures.0 ∙ ap (λ (x : Line). record_fault x.bytes l.upper l.ended l.table) line) c.if-fault-ne0.true
+    kept_fault c.args.text.now l.table l.at l.number l.upper l.ended l.invariant c.loop-at-test.true c.in-Some.line (sym c.in-Some.ensures)
+    _ c.in-Err.ensures.0 (fault_some c.in-Err.fault)
 
 pub loop-at-smaller : goal.loop-at-smaller
 loop-at-smaller c =
-    let a = c.args in
     let l = c.loop-at in
-    let line = c.line_at-line.ensures in
-    subst (λ (x : Line). length a.text.now - x.next < length a.text.now - l.at) (sym line)
-    (nearer a.text.now l.table l.at l.number l.upper l.ended l.invariant c.loop-at-test.true
-    (sym (ap (λ (x : Line). x.good) line) ∙ not-false _ c.if-not-line.false))
+    nearer c.args.text.now l.table l.at l.number l.upper l.ended l.invariant c.loop-at-test.true c.in-Some.line (sym c.in-Some.ensures)
 
 pub loop-at-preserved : goal.loop-at-preserved
 loop-at-preserved c =
-    let a = c.args in
     let l = c.loop-at in
-    kept_line a.text.now l.table l.at l.number l.upper l.ended l.invariant c.loop-at-test.true
-    c.line_at-line.result c.line_at-line.ensures (not-false _ c.if-not-line.false) c.fault_of-fault.result c.fault_of-fault.ensures.0 c.if-fault-ne0.false
-    _ (c.fault_of-fault.ensures.1 c.if-fault-ne0.false) _ c.upper_behind-upper.ensures.0 c.upper_behind-upper.ensures.1 _ refl
-
-pub shape_of-table-then-ended : goal.shape_of-table-then-ended
-shape_of-table-then-ended c = c.loop-at.invariant.marks.size ∙ sym (ap length c.requires ∙ length-replicate {A = ℕ} 66560 255)
+    kept_next c.args.text.now l.table l.at l.number l.upper l.ended l.invariant c.loop-at-test.true c.in-Some.line (sym c.in-Some.ensures)
+    0 c.in_default-judge.ensures.0 refl _ c.in_default-judge.ensures.1 _ c.upper_behind-upper.ensures _ refl
 
 pub returns-then-ended : goal.returns-then-ended
 returns-then-ended c =
-    let a = c.args in
     let l = c.loop-at in
-    kept_done a.text.now l.table l.at l.number l.upper l.ended l.invariant c.loop-at-test.false c.if-ended.true
-
-pub shape_of-table : goal.shape_of-table
-shape_of-table c = c.loop-at.invariant.marks.size ∙ sym (ap length c.requires ∙ length-replicate {A = ℕ} 66560 255)
+    kept_done c.args.text.now l.table l.at l.number l.upper l.ended l.invariant c.loop-at-test.false c.if-ended.true
 
 pub returns : goal.returns
 returns c =
-    let a = c.args in
     let l = c.loop-at in
-    kept_open a.text.now l.table l.at l.number l.upper l.ended l.invariant c.loop-at-test.false c.if-ended.false
+    kept_open c.args.text.now l.table l.at l.number l.upper l.ended l.invariant c.loop-at-test.false c.if-ended.false

@@ -3,7 +3,7 @@ use Rattle.std.specs.Prelude.{ℕ, Bool, not, cond}
 use Rattle.node_rules.specs.declared.Node.{Node}
 use Rattle.node_rules.specs.Outcomes.{is_deaf}
 use Rattle.node_rules.specs.Uart.{is_closed, silent_on_uart}
-use Rattle.node_piece_rules.specs.declared.PieceAnswer.{PieceAnswer}
+use Rattle.node_piece_rules.specs.Piece.{PieceAnswer}
 
 -- 1, 2 or 3, or else 0; whether both memories are full is known
 abbrev pub refusal_of : Bool → Node → ℕ

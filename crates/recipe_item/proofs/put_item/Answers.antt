@@ -28,7 +28,7 @@ put-requires c =
 pub returns-then-whole_with_room : goal.returns-then-whole_with_room
 returns-then-whole_with_room c =
     let a = c.args in
-    block_done a.m.0 a.g.0 a.input.now a.place a.output.now a.at (sym
+    block_done a.numbers.module.0 a.numbers.group.0 a.input.now a.place a.output.now a.at (sym
     c.byte_at.ensures
     ∙ c.in-2.is) _
     c.whole_with_room.ensures
@@ -38,14 +38,14 @@ returns-then-whole_with_room c =
 pub returns-else-whole_with_room : goal.returns-else-whole_with_room
 returns-else-whole_with_room c =
     let a = c.args in
-    block_stays a.m.0 a.g.0 a.input.now a.place a.output.now a.at (sym
+    block_stays a.numbers.module.0 a.numbers.group.0 a.input.now a.place a.output.now a.at (sym
     c.byte_at.ensures ∙ c.in-2.is) _ c.whole_with_room.ensures
     c.if-whole_with_room.false
 
 pub returns-then-whole_with_room-2 : goal.returns-then-whole_with_room-2
 returns-then-whole_with_room-2 c =
     let a = c.args in
-    row_done a.m.0 a.g.0 a.input.now a.place a.output.now a.at (sym
+    row_done a.numbers.module.0 a.numbers.group.0 a.input.now a.place a.output.now a.at (sym
     c.byte_at.ensures
     ∙ c.in-3.is) _
     c.whole_with_room-in-3.ensures
@@ -55,14 +55,14 @@ returns-then-whole_with_room-2 c =
 pub returns-else-whole_with_room-2 : goal.returns-else-whole_with_room-2
 returns-else-whole_with_room-2 c =
     let a = c.args in
-    row_stays a.m.0 a.g.0 a.input.now a.place a.output.now a.at (sym
+    row_stays a.numbers.module.0 a.numbers.group.0 a.input.now a.place a.output.now a.at (sym
     c.byte_at.ensures ∙ c.in-3.is) _ c.whole_with_room-in-3.ensures
     c.if-whole_with_room-2.false
 
 pub returns-then-whole_with_room-3 : goal.returns-then-whole_with_room-3
 returns-then-whole_with_room-3 c =
     let a = c.args in
-    leave_done a.m.0 a.g.0 a.input.now a.place a.output.now a.at (sym
+    leave_done a.numbers.module.0 a.numbers.group.0 a.input.now a.place a.output.now a.at (sym
     c.byte_at.ensures
     ∙ c.in-15.is) _
     c.whole_with_room-in-15.ensures
@@ -72,13 +72,13 @@ returns-then-whole_with_room-3 c =
 pub returns-else-whole_with_room-3 : goal.returns-else-whole_with_room-3
 returns-else-whole_with_room-3 c =
     let a = c.args in
-    leave_stays a.m.0 a.g.0 a.input.now a.place a.output.now a.at (sym
+    leave_stays a.numbers.module.0 a.numbers.group.0 a.input.now a.place a.output.now a.at (sym
     c.byte_at.ensures ∙ c.in-15.is) _ c.whole_with_room-in-15.ensures
     c.if-whole_with_room-3.false
 
 pub returns-in_default : goal.returns-in_default
 returns-in_default c =
     let a = c.args in
-    nothing_there a.m.0 a.g.0 a.input.now a.place a.output.now a.at (λ e. c.in_default.in_default-own.rest.0.0.1
+    nothing_there a.numbers.module.0 a.numbers.group.0 a.input.now a.place a.output.now a.at (λ e. c.in_default.in_default-own.rest.0.0.1
     (c.byte_at.ensures ∙ e)) (λ e. c.in_default.in_default-own.rest.0.1 (c.byte_at.ensures ∙ e)) (λ e. c.in_default.in_default-own.rest.1
     (c.byte_at.ensures ∙ e))

@@ -7,7 +7,7 @@ use Rattle.recipe_translate.proofs.Emission.{Emitted}
 use Rattle.recipe_translate.proofs.put_frames.Given as goal
 
 abbrev pub invariant-loop-c : goal.invariant-loop-c
-invariant-loop-c l = Emitted l.input l.initial.output l.m.0 l.g.0 l.output l.c
+invariant-loop-c l = Emitted l.input l.initial.output l.numbers.module.0 l.numbers.group.0 l.output l.c
 
 abbrev pub decreases-loop-c : goal.decreases-loop-c
 decreases-loop-c l = length l.input - l.c.place

@@ -1,8 +1,8 @@
 -- What the hand-over of frames leaves.
 use Rattle.std.specs.Prelude.{ℕ, ◌*◌, List, ◌++◌, drop}
 use Rattle.node_rules.specs.declared.Node.{Node}
-use Rattle.recipe.specs.declared.Translated.TheVariants.{Frames}
 use Rattle.recipe.specs.Frames.{joined}
+use Rattle.recipe.specs.Translation.{Frames}
 use Rattle.update_rules.specs.Delivery.{Delivery, delivered}
 use Rattle.update_deliver.specs.Taken.{first_frames}
 use Rattle.update_deliver.specs.Delivering.{Left, left}

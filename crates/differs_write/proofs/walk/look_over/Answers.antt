@@ -1,59 +1,37 @@
 -- `differs_write::walk::look_over` meets its contract. Before each turn the walk is one that the items so far lead to (`Seen`); what is left
 -- of the recipe falls.
 -- Assumes nothing.
-use Rattle.base.proofs.Bytes.{bytes_by}
-use Rattle.recipe_fault.proofs.Walking.{at_item}
-use Rattle.differs_write.proofs.Seeing.{seen_start, seen_open, seen_fault, seen_done, seen_small, seen_table, seen_room, seen_block, dropped_room, seen_next, seen_nearer}
+use borrow.Author.Tests.{not-false, not-true}
 use native.Mathlib.Omega.{arith}
+use Rattle.std.proofs.Common.{ℕ, List, get_or, Fits, w8}
+use Rattle.base.specs.Parts.{Bytes}
+use Rattle.base.proofs.Bytes.{bytes_by}
+use Rattle.recipe.proofs.Answers.{numbered}
+use Rattle.differs_write.proofs.Seeing.{seen_start, seen_open, seen_fault, seen_done, seen_block, dropped_room, seen_next}
 use Rattle.differs_write.proofs.walk.look_over.Goals as goal
+
+bytes : (s : List ℕ) → ((i : ℕ) → Fits w8 (get_or s i 0)) → Bytes s
+bytes s fits = bytes_by s (λ i l. omega (arith, fits i))
 
 pub loop-w-init : goal.loop-w-init
 loop-w-init c = seen_start c.args.recipe.now c.args.image.now c.args.last.now c.args.places.now c.requires.0 c.requires.1 c.requires.2
 
-pub shape_of-last-then-ended : goal.shape_of-last-then-ended
-shape_of-last-then-ended c = seen_table c.args.recipe.now c.args.image.now c.loop-w.last c.loop-w.places c.loop-w.w c.loop-w.invariant c.args.last.now c.requires.1
-
-pub shape_of-places-then-ended : goal.shape_of-places-then-ended
-shape_of-places-then-ended c = seen_room c.args.recipe.now c.args.image.now c.loop-w.last c.loop-w.places c.loop-w.w c.loop-w.invariant c.args.places.now c.requires.2
-
-pub returns-then-ended : goal.returns-then-ended
-returns-then-ended c = seen_done c.args.recipe.now c.args.image.now c.loop-w.last c.loop-w.places c.loop-w.w c.loop-w.invariant c.if-recipe-place.true c.if-ended.true
-
-pub shape_of-last-then-recipe-place : goal.shape_of-last-then-recipe-place
-shape_of-last-then-recipe-place c = seen_table c.args.recipe.now c.args.image.now c.loop-w.last c.loop-w.places c.loop-w.w c.loop-w.invariant c.args.last.now c.requires.1
-
-pub shape_of-places-then-recipe-place : goal.shape_of-places-then-recipe-place
-shape_of-places-then-recipe-place c = seen_room c.args.recipe.now c.args.image.now c.loop-w.last c.loop-w.places c.loop-w.w c.loop-w.invariant c.args.places.now c.requires.2
-
-pub returns-then-recipe-place : goal.returns-then-recipe-place
-returns-then-recipe-place c = seen_open c.args.recipe.now c.args.image.now c.loop-w.last c.loop-w.places c.loop-w.w c.loop-w.invariant c.if-recipe-place.true c.if-ended.false
-
-pub shape_of-last-then-fault-ne0 : goal.shape_of-last-then-fault-ne0
-shape_of-last-then-fault-ne0 c = seen_table c.args.recipe.now c.args.image.now c.loop-w.last c.loop-w.places c.loop-w.w c.loop-w.invariant c.args.last.now c.requires.1
-
-pub shape_of-places-then-fault-ne0 : goal.shape_of-places-then-fault-ne0
-shape_of-places-then-fault-ne0 c = seen_room c.args.recipe.now c.args.image.now c.loop-w.last c.loop-w.places c.loop-w.w c.loop-w.invariant c.args.places.now c.requires.2
-
-pub returns-then-fault-ne0 : goal.returns-then-fault-ne0
-returns-then-fault-ne0 c = seen_fault c.args.recipe.now c.args.image.now c.loop-w.last c.loop-w.places c.loop-w.w c.loop-w.invariant c.fault_at-fault.result c.if-recipe-place.false c.fault_at-fault.ensures c.if-fault-ne0.true
+pub returns-in-Err : goal.returns-in-Err
+returns-in-Err c = seen_fault c.loop-w.invariant _ c.loop-w-test.true c.in-Err.ensures (numbered c.in-Err.fault)
 
 pub keeps-kept-requires : goal.keeps-kept-requires
-keeps-kept-requires c = (c.if-recipe-place.false, seen_block c.args.recipe.now c.args.image.now c.loop-w.last c.loop-w.places c.loop-w.w c.loop-w.invariant (at_item c.args.recipe.now c.loop-w.w.place c.loop-w.w.number c.loop-w.w.ended c.fault_at-fault.result c.if-recipe-place.false c.loop-w.invariant.few c.fault_at-fault.ensures c.if-fault-ne0.false) (bytes_by c.args.recipe.now (λ i l. omega (arith, c.type_inv.recipe i))) c.requires.0)
+keeps-kept-requires c =
+    (c.loop-w-test.true, seen_block c.loop-w.invariant c.loop-w-test.true c.in_default.ensures (bytes _ c.type_inv.recipe) c.requires.0)
 
-pub overflow_cast-places : goal.overflow_cast-places
-overflow_cast-places c = omega (arith, c.loop-w.invariant.far, c.loop-w.invariant.few)
-
-pub offset_bounds-places-dropped : goal.offset_bounds-places-dropped
-offset_bounds-places-dropped c = omega (arith, c.loop-w.invariant.less, c.loop-w.invariant.few)
-
-pub bounds-places-dropped : goal.bounds-places-dropped
-bounds-places-dropped c = omega (arith, dropped_room c.args.recipe.now c.args.image.now c.loop-w.last c.loop-w.places c.loop-w.w c.loop-w.invariant (at_item c.args.recipe.now c.loop-w.w.place c.loop-w.w.number c.loop-w.w.ended c.fault_at-fault.result c.if-recipe-place.false c.loop-w.invariant.few c.fault_at-fault.ensures c.if-fault-ne0.false) (bytes_by c.args.recipe.now (λ i l. omega (arith, c.type_inv.recipe i))))
-
-pub next-w-requires : goal.next-w-requires
-next-w-requires c = seen_small c.args.recipe.now c.args.image.now c.loop-w.last c.loop-w.places c.loop-w.w c.loop-w.invariant
-
-pub loop-w-smaller : goal.loop-w-smaller
-loop-w-smaller c = omega (arith, c.if-recipe-place.false, seen_nearer c.args.recipe.now c.args.image.now c.loop-w.last c.loop-w.places c.loop-w.w c.loop-w.invariant (at_item c.args.recipe.now c.loop-w.w.place c.loop-w.w.number c.loop-w.w.ended c.fault_at-fault.result c.if-recipe-place.false c.loop-w.invariant.few c.fault_at-fault.ensures c.if-fault-ne0.false) (bytes_by c.args.recipe.now (λ i l. omega (arith, c.type_inv.recipe i))) c.keeps-kept.result c.next-w.result c.next-w.ensures)
+pub bounds-places-w : goal.bounds-places-w
+bounds-places-w c = dropped_room c.loop-w.invariant c.loop-w-test.true c.in_default.ensures
 
 pub loop-w-preserved : goal.loop-w-preserved
-loop-w-preserved c = seen_next c.args.recipe.now c.args.image.now c.loop-w.last c.loop-w.places c.loop-w.w c.loop-w.invariant (at_item c.args.recipe.now c.loop-w.w.place c.loop-w.w.number c.loop-w.w.ended c.fault_at-fault.result c.if-recipe-place.false c.loop-w.invariant.few c.fault_at-fault.ensures c.if-fault-ne0.false) (bytes_by c.args.recipe.now (λ i l. omega (arith, c.type_inv.recipe i))) c.keeps-kept.result _ c.next-w.result c.keeps-kept.ensures.0 c.keeps-kept.ensures.1 c.next-w.ensures
+loop-w-preserved c =
+    seen_next c.loop-w.invariant c.loop-w-test.true c.in_default.ensures (bytes _ c.type_inv.recipe) c.keeps-kept.result c.keeps-kept.new.last c.next-w.result c.keeps-kept.ensures.0 c.keeps-kept.ensures.1 c.next-w.ensures
+
+pub returns-then-not-w : goal.returns-then-not-w
+returns-then-not-w c = seen_open c.loop-w.invariant c.loop-w-test.false (not-true _ c.if-not-w.true)
+
+pub returns : goal.returns
+returns c = seen_done c.loop-w.invariant c.loop-w-test.false (not-false _ c.if-not-w.false)

@@ -1,12 +1,7 @@
 -- `hex_line::digits::pairs_of` meets its contract: before each turn the bytes read so far, with those of the digits left, are all.
 -- Assumes nothing.
-use Prim.Native.Nat.{◌-◌, ◌*◌}
-use lib.ListN.{length}
 use Rattle.hex_line.proofs.Pairs.{Done}
 use Rattle.hex_line.proofs.digits.pairs_of.Given as goal
 
 abbrev pub invariant-loop-i : goal.invariant-loop-i
 invariant-loop-i l = Done l.digits l.bytes l.i
-
-abbrev pub decreases-loop-i : goal.decreases-loop-i
-decreases-loop-i l = length l.digits - 2 * l.i

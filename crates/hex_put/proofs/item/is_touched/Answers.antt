@@ -7,15 +7,10 @@ use Rattle.hex_put.proofs.Marking.{one_more_lem, all_looked_at}
 use native.Mathlib.Omega.{arith}
 use Rattle.hex_put.proofs.item.is_touched.Goals as goal
 
-pub loop-i-init : goal.loop-i-init
-loop-i-init c = (omega arith, refl)
-
-pub loop-i-preserved : goal.loop-i-preserved
-loop-i-preserved c =
-    let l = c.loop-i in (
-      omega arith,
-      rw add-one (one_more_lem c.args.places.now l.i l.marked c.or_marked-marked.result c.loop-i-test.true c.or_marked-marked.ensures l.invariant.1),
-    )
+pub loop-place-preserved : goal.loop-place-preserved
+loop-place-preserved c =
+    let l = c.loop-place in
+    rw add-one (one_more_lem c.args.places.now l.place-index l.marked _ c.loop-place-test.true refl l.invariant)
 
 pub returns : goal.returns
-returns c = all_looked_at c.args.places.now c.loop-i.i c.loop-i.marked c.loop-i-test.false c.loop-i.invariant.1
+returns c = all_looked_at c.args.places.now c.loop-place.place-index c.loop-place.marked (omega arith) c.loop-place.invariant

@@ -3,13 +3,9 @@
 -- Assumes nothing.
 use mathlib.Core.Bool.{◌||◌}
 use mathlib.Core.Path.{◌≡◌}
-use Prim.Native.Nat.{◌-◌, ◌≤◌}
-use lib.ListN.{length, drop}
+use lib.ListN.{drop}
 use Rattle.hex_put.specs.Internal.Table.{some_marked}
 use Rattle.hex_put.proofs.item.is_touched.Given as goal
 
-abbrev pub invariant-loop-i : goal.invariant-loop-i
-invariant-loop-i l = (l.i ≤ length l.places) × (some_marked l.places ≡ (l.marked || some_marked (drop l.i l.places)))
-
-abbrev pub decreases-loop-i : goal.decreases-loop-i
-decreases-loop-i l = length l.places - l.i
+abbrev pub invariant-loop-place : goal.invariant-loop-place
+invariant-loop-place l = some_marked l.places ≡ (l.marked || some_marked (drop l.place-index l.places))

@@ -1,42 +1,25 @@
 -- `hex_put::item::put_low` meets its contract: after i turns the first i bytes are new.
 -- Assumes nothing.
-use mathlib.Core.Path.{◌≡◌, ◌∙◌, refl, sym, ap}
+use mathlib.Core.Path.{◌≡◌, ◌∙◌, sym, ap}
 use lib.ListN.{length}
-use Rattle.base.proofs.Stored.{mix, mix_length, mix_all, stored}
+use Rattle.base.proofs.Stored.{mix, mix_all, stored}
 use Rattle.hex_put.specs.Internal.Table.{low_bytes}
 use Rattle.hex_put.proofs.Marking.{low_length, low_byte}
 use native.Mathlib.Omega.{arith}
 use Rattle.hex_put.proofs.item.put_low.Goals as goal
 
-pub loop-i-init : goal.loop-i-init
-loop-i-init c = (omega arith, refl)
-
-pub bounds-output-i : goal.bounds-output-i
-bounds-output-i c =
-    let a = c.args in
-    let l = c.loop-i in
-    omega (arith, ap length l.invariant.1, mix_length (low_bytes a.places.now) a.output.now l.i (low_length a.places.now ∙ sym c.requires))
-
 pub loop-i-preserved : goal.loop-i-preserved
 loop-i-preserved c =
     let a = c.args in
-    let l = c.loop-i in (
-      omega arith,
-      stored (low_bytes a.places.now) a.output.now l.output l.i _ l.invariant.1 (sym (low_byte a.places.now l.i
-          c.loop-i-test.true)) (omega (arith, low_length a.places.now)) (omega (arith, c.requires)),
-    )
-
-pub shape_of-output : goal.shape_of-output
-shape_of-output c =
-    let a = c.args in
     let l = c.loop-i in
-    ap length l.invariant.1 ∙ mix_length (low_bytes a.places.now) a.output.now l.i (low_length a.places.now ∙ sym c.requires)
+    stored (low_bytes a.places.now) a.output.now l.output l.i _ l.invariant (sym (low_byte a.places.now l.i (omega arith)))
+    (omega (arith, low_length a.places.now)) (omega (arith, c.requires))
 
 pub returns : goal.returns
 returns c =
     let a = c.args in
     let l = c.loop-i in
     let all : l.i ≡ length a.places.now = omega arith in
-    l.invariant.1
+    l.invariant
     ∙ ap (mix (low_bytes a.places.now) a.output.now) all
     ∙ mix_all (low_bytes a.places.now) a.output.now (length a.places.now) (low_length a.places.now) c.requires

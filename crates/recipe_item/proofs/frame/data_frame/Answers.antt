@@ -6,7 +6,7 @@ use Rattle.base.proofs.Listed.{listed_all}
 use Rattle.recipe_item.proofs.frame.data_frame.Goals as goal
 
 pub returns : goal.returns
-returns c = ap (data_frame c.args.m.0
-    c.args.g.0) (listed_all
+returns c = ap (data_frame c.args.numbers.module.0
+    c.args.numbers.group.0) (listed_all
     c.args.cells.now 8
     c.requires)

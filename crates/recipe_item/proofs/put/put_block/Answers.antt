@@ -10,7 +10,7 @@ use Rattle.recipe_item.proofs.put.put_block.Goals as goal
 pub returns : goal.returns
 returns c =
     let a = c.args in
-    block_patched a.m.0 a.g.0 a.address.0 (part a.input.now (a.place + 4) 64) a.output.now
+    block_patched a.numbers.module.0 a.numbers.group.0 a.address.0 (part a.input.now (a.place + 4) 64) a.output.now
     c.put_pair.new.output
     c.put_writes.new.output a.at (a.at + 24) (omega arith) refl
     c.put_pair.ensures c.put_writes.ensures

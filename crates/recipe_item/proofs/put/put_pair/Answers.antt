@@ -10,12 +10,12 @@ pub returns : goal.returns
 returns c =
     patched_pair c.args.output.now
     c.put.new.output c.put-2.new.output _ _
-    (address_frame c.args.m.0
-    c.args.g.0
+    (address_frame c.args.numbers.module.0
+    c.args.numbers.group.0
     c.args.command
     c.args.address) (data_frame
-    c.args.m.0
-    c.args.g.0
+    c.args.numbers.module.0
+    c.args.numbers.group.0
     c.args.cells.now)
     c.args.at (omega arith) refl
     c.address_frame.ensures

@@ -12,5 +12,5 @@ pub returns : goal.returns
 returns c =
     let a = c.args in
     let eight : a.place + 4 + 8 - (a.place + 4) ≡ 8 = omega arith in
-    row_patched a.m.0 a.g.0 a.address.0 (part a.input.now (a.place + 4) 8) a.output.now _ _ a.at
+    row_patched a.numbers.module.0 a.numbers.group.0 a.address.0 (part a.input.now (a.place + 4) 8) a.output.now _ _ a.at
     (ap (λ (n : ℕ). take n (drop (a.place + 4) a.input.now)) eight) c.put_pair.ensures

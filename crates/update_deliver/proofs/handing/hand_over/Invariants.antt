@@ -4,9 +4,6 @@
 use Rattle.update_deliver.proofs.Turns.{Handing}
 use Rattle.update_deliver.proofs.handing.hand_over.Given as goal
 
-abbrev pub invariant-loop-left : goal.invariant-loop-left
-invariant-loop-left l =
-    Handing l.frames l.count l.initial.flash l.initial.eeprom l.initial.answers l.initial.n l.flash l.eeprom l.answers l.n l.at l.to l.left
-
-abbrev pub decreases-loop-left : goal.decreases-loop-left
-decreases-loop-left l = l.left
+abbrev pub invariant-loop-i : goal.invariant-loop-i
+invariant-loop-i l =
+    Handing l.frames l.count l.initial.flash l.initial.eeprom l.initial.answers l.initial.n l.flash l.eeprom l.answers l.n l.i

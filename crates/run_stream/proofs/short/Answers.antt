@@ -1,0 +1,17 @@
+-- Where two bytes are left, the number isn't cut.
+use Rattle.std.proofs.Common.{arith, refl, ap, length, drop, length-drop, length-take}
+use Rattle.run_stream.proofs.short.Goals as goal
+
+pub returns-in-Some-clause-cut : goal.returns-in-Some-clause-cut
+returns-in-Some-clause-cut c =
+    λ cut.
+    let bytes = c.args.bytes.now in
+    let left = ap length c.part.ensures in
+    absurd (omega (
+      arith,
+      cut,
+      c.in-Some.ensures.variant.0 refl,
+      left,
+      length-drop c.args.i bytes,
+      length-take 2 (drop c.args.i bytes),
+    ))
