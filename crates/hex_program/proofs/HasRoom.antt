@@ -15,9 +15,8 @@ use borrow.Fn.Kinds.{ended_of}
 use Rattle.hex_rules.specs.Refusing.{Converted, Made, Refused, in_numbers}
 use Rattle.hex_rules.specs.Record.{record_of, bad_digit, bad_length, bad_sum, other_type}
 use Rattle.hex_rules.specs.Cells.{Cell, some_outside, some_twice}
-use Rattle.hex_rules.specs.Checks.{Given, Read, gives, refused, cells_of, rules_at, fault_at, with_record, at_the_end, lines_read}
+use Rattle.hex_rules.specs.Checks.{Given, Read, gives, refused, cells_of, rules_at, fault_at, with_record, lines_read}
 use Rattle.hex_rules.specs.Converting.{text_read, bytes_of, answered, converted}
-use Rattle.hex_rules.specs.Recipe.{items_of}
 use Rattle.hex_rules.proofs.Reading.{read_on, read_fault, read_end}
 use Rattle.hex_rules.proofs.MadeLegal.{printed_size, items_size}
 use Rattle.hex_read.specs.contracts.convert.{signature}

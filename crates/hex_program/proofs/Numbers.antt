@@ -1,18 +1,19 @@
 -- Laws of the numbers that arguments write: what a character stands for, by the tests that are made of it, and digits read one by one.
 -- Assumes nothing.
 use mathlib.Core.Path.{◌≡◌, refl, sym, ap, subst, ◌∙◌}
-use mathlib.Core.Bool.{Bool, true, false, ◌&&◌, ◌||◌, cond}
+use mathlib.Core.Bool.{Bool, true, false, ◌&&◌, ◌||◌, cond, false≢true}
+use lib.Pointwise.{pointwise}
 use mathlib.Core.List.{List, [], ◌∷◌}
-use Prim.Native.Nat.{ℕ, zero, suc, ◌+◌, ◌-◌, ◌*◌, ◌≤◌, ◌<◌}
+use Prim.Native.Nat.{ℕ, zero, suc, ◌+◌, ◌*◌, ◌≤◌, ◌<◌}
 use native.Mathlib.Omega.{arith}
 use native.Mathlib.Numerals.{add-one}
 use native.Mathlib.Nat.{mul-le-mul_right}
 use lib.Dec.{eqb, ltb}
-use lib.ListN.{length, get_or, drop, drop_of_length-le, get_or-eq_default}
+use lib.ListN.{length, get_or, take, drop, drop_of_length-le}
 use lib.Seq.{drop-cons}
-use mathlib.Core.Logic.{◌⊎◌, ⊎_elim}
-use borrow.Author.Tests.{lt-ltb, le-ltb, ltb-true, ltb-false, eq-eqb, ne_eqb, eqb-true, eqb-false}
-use Rattle.base.proofs.Choice.{by_cond, cond_true, cond_false, both_true, true_or_false}
+use mathlib.Core.Logic.{⊎_elim}
+use borrow.Author.Tests.{lt-ltb, le-ltb, eq-eqb, ne_eqb, eqb-true, eqb-false}
+use Rattle.base.proofs.Choice.{by_cond, cond_true, both_true, true_or_false}
 use Rattle.hex_rules.specs.Record.{digit_of}
 use Rattle.hex_program.specs.Internal.Numbers.{digits_read, value_of, number_of}
 use Rattle.std.specs.Prelude.{Option, Some, None}
@@ -129,23 +130,31 @@ module _ (base value : ℕ) (word : List ℕ) (i : ℕ) (so : digits_read base 0
   all_read some small end = small_byte base word value some small (so ∙ ap (digits_read base value) (drop_of_length-le word end))
 
 -- a word that starts with 0x, and one that doesn't
-module _ (word : List ℕ) where
-  pub hexadecimal : get_or word 0 0 ≡ 0x30 → get_or word 1 0 ≡ 0x78 → value_of 16 (drop 2 word) ≡ number_of word
-  unfolding number_of
-  hexadecimal e f = sym (simp (eq-eqb (get_or word 0 0) 0x30 e, eq-eqb (get_or word 1 0) 0x78 f))
+abbrev starts : List ℕ → Bool
+starts word = pointwise eqb (take 2 word) (0x30 ∷ 0x78 ∷ [])
 
-  pub decimal : (2 ≤ length word → get_or word 0 0 ≡ 0x30 → get_or word 1 0 ≡ 0x78 → ⊥) → value_of 10 word ≡ number_of word
-  unfolding number_of
-  decimal n =
-      sym (cond_false (eqb (get_or word 0 0) 0x30 && eqb (get_or word 1 0) 0x78) _ _
-      (⊎_elim
-      (λ (t : (eqb (get_or word 0 0) 0x30 && eqb (get_or word 1 0) 0x78) ≡ true).
-      let two = both_true (eqb (get_or word 0 0) 0x30) (eqb (get_or word 1 0) 0x78) t in
-      let x = eqb-true (get_or word 1 0) 0x78 two.1 in
-      absurd (n (long x) (eqb-true (get_or word 0 0) 0x30 two.0) x))
-      (λ f. f) (true_or_false (eqb (get_or word 0 0) 0x30 && eqb (get_or word 1 0) 0x78))))
-    where
-      long : get_or word 1 0 ≡ 0x78 → 2 ≤ length word
-      long x =
-          ⊎_elim (λ (t : ltb (length word) 2 ≡ true). let z = get_or-eq_default word 0 {n = 1} (let l = ltb-true (length word) 2 t in omega arith) in absurd (omega (arith, x, z)))
-          (λ (f : ltb (length word) 2 ≡ false). ltb-false (length word) 2 f) (true_or_false (ltb (length word) 2))
+chosen : (a b : Bool) (x y : Option ℕ) → (a && (b && true)) ≡ true → x ≡ cond (a && b) x y
+chosen true true x y e = refl
+chosen true false x y e = absurd (false≢true e)
+chosen false b x y e = absurd (false≢true e)
+
+not_chosen : (a b : Bool) (x y : Option ℕ) → (a && (b && true)) ≡ false → y ≡ cond (a && b) x y
+not_chosen true true x y e = absurd (false≢true (sym e))
+not_chosen true false x y e = refl
+not_chosen false b x y e = refl
+
+one_only : (a : Bool) (x y : Option ℕ) → y ≡ cond (a && false) x y
+one_only true x y = refl
+one_only false x y = refl
+
+pub hexadecimal : (word : List ℕ) → starts word ≡ true → value_of 16 (drop 2 word) ≡ number_of word
+unfolding number_of
+hexadecimal [] e = absurd (false≢true e)
+hexadecimal (x ∷ []) e = absurd (false≢true (both_true (eqb x 0x30) false e).1)
+hexadecimal (x ∷ (y ∷ word)) e = chosen (eqb x 0x30) (eqb y 0x78) (value_of 16 word) (value_of 10 (x ∷ (y ∷ word))) e
+
+pub decimal : (word : List ℕ) → starts word ≡ false → value_of 10 word ≡ number_of word
+unfolding number_of
+decimal [] e = refl
+decimal (x ∷ []) e = one_only (eqb x 0x30) (value_of 16 []) (value_of 10 (x ∷ []))
+decimal (x ∷ (y ∷ word)) e = not_chosen (eqb x 0x30) (eqb y 0x78) (value_of 16 word) (value_of 10 (x ∷ (y ∷ word))) e

@@ -1,5 +1,5 @@
 -- No digits, a digit that is none of the base, a value that is too large, and a value that is read to the end.
-use Rattle.std.proofs.Common.{ℕ, ◌≤◌, ◌<◌, refl, sym, ap, ◌∙◌, eqb, false, arith, get_or, rules}
+use Rattle.std.proofs.Common.{◌≤◌, ◌<◌, refl, sym, ap, ◌∙◌, arith, get_or, rules}
 use Rattle.std.specs.Char.{digit_value}
 use borrow.Author.Tests.{eqb-true, eqb-false}
 use Rattle.hex_program.proofs.Numbers.{no_digits, digit_found, digit_missing, one_more_lem, too_large, wrong_digit, all_read}
