@@ -1,7 +1,7 @@
 // What every crate may use: readers and a writer that never run past the end, and the laws of parts, patches, choices and stores.
 #![tactic(auto)]
 
-ghost use Rattle.std.specs.Prelude.{◌≡◌, get_or, drop};
+ghost use Rattle.std.specs.Prelude.{◌≡◌, get_or};
 ghost use Rattle.base.specs.Parts.{listed};
 ghost use Rattle.base.specs.Internal.Putting.{put_at};
 
@@ -12,22 +12,21 @@ pub fn byte_at(s: &[u8], i: usize) -> u8
     s.get(i).copied().unwrap_or(0)
 }
 
-// What lies from i on: nothing behind the end.
-fn rest_from(s: &[u8], i: usize) -> &[u8]
-    ensures { result.now ≡ drop i s.now }
+// The first eight bytes, 0 behind the end.
+fn first_eight(s: &[u8]) -> [u8; 8]
+    ensures { result ≡ listed s.now 0 8 }
 {
-    s.get(i..).unwrap_or(&[])
+    match s.first_chunk() {
+        Some(cells) => *cells,
+        None => std::array::from_fn(|k| byte_at(s, k)),
+    }
 }
 
 // Eight bytes from i on, 0 behind the end.
 pub fn eight(s: &[u8], i: usize) -> [u8; 8]
     ensures { result ≡ listed s.now i 8 }
 {
-    let rest = rest_from(s, i);
-    match rest.first_chunk() {
-        Some(cells) => *cells,
-        None => std::array::from_fn(|k| byte_at(rest, k)),
-    }
+    s.get(i..).map_or([0; 8], first_eight)
 }
 
 // Puts bytes into an output at a place; where they don't fit all of the output stays as it is.

@@ -15,7 +15,7 @@ pub fn type_of(frame: &[u8]) -> u16
 {
     let first = base::byte_at(frame, 0);
     let second = base::byte_at(frame, 1);
-    (first as u16) * 16 + (second as u16) / 16
+    u16::from_be_bytes([first, second]) / 16
 }
 
 // Outcome 3: the mode takes no frame, as it is error or waiting for restart.

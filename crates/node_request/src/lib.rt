@@ -38,7 +38,7 @@ fn address_in(frame: &[u8]) -> u32
     let high = base::byte_at(frame, 4);
     let middle = base::byte_at(frame, 5);
     let low = base::byte_at(frame, 6);
-    (high as u32) * 65536 + (middle as u32) * 256 + (low as u32)
+    u32::from_be_bytes([0, high, middle, low])
 }
 
 // The command that is staged at a legal address.

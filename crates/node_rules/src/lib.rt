@@ -14,7 +14,8 @@ pub enum Pin {
     CanAndUart,
 }
 
-// The staged command with its address. Erase can carry only a FLASH address.
+// The staged command with its address. Erase can carry only a FLASH address. `Nothing` here, and `Kept`, `Stays` and `Silent` below, are
+// the words of the request table (`asked`, `doing`): an Option around each would be no plainer.
 #[derive(Clone, Copy)]
 pub enum Staged {
     Nothing,
@@ -56,7 +57,7 @@ pub struct Plate {
 }
 
 // What is being received on UART: the first `count` bytes are held, and 0 stands behind them. At most 14 are held: the fifteenth
-// completes a frame.
+// completes a frame. A count beside an array: memory is fixed, and any record may be handed in (`tidied`).
 #[derive(Clone, Copy)]
 pub struct Receiver {
     pub held: [u8; 15],
@@ -187,6 +188,7 @@ pub struct Deed {
 }
 
 // How many replies, and their bytes; 0 behind them. On CAN N is 24, for two replies of 12 bytes; on UART 30, for two of 15 wrapped bytes.
+// A count beside an array: memory is fixed.
 #[derive(Clone, Copy)]
 pub struct Replies<const N: usize> {
     pub count: u8,

@@ -1,5 +1,6 @@
 // The header record of a recipe and its image.
 use base::byte_at;
+use run_stream::{number, short};
 
 // A header: the recipe's length, the image's and that of the lent output, the image's fill with its steps, and how many patches follow.
 #[derive(Clone, Copy)]
@@ -10,30 +11,18 @@ pub struct Header {
     pub fill: u8,
     pub step: u8,
     pub more: u8,
-    pub patches: usize,
-}
-
-// The four bytes from i on as a number, high byte first.
-pub fn number(s: &[u8], i: usize) -> usize {
-    if 60 < i {
-        return 0;
-    }
-    let first = byte_at(s, i) as usize;
-    let second = byte_at(s, i + 1) as usize;
-    let third = byte_at(s, i + 2) as usize;
-    let fourth = byte_at(s, i + 3) as usize;
-    first * 16_777_216 + second * 65_536 + third * 256 + fourth
+    pub patches: u16,
 }
 
 // The header in this record.
-pub fn read(s: &[u8]) -> Header {
+pub fn read(record: &[u8]) -> Header {
     Header {
-        length: number(s, 1),
-        cells: number(s, 5),
-        room: number(s, 9),
-        fill: byte_at(s, 13),
-        step: byte_at(s, 14),
-        more: byte_at(s, 15),
-        patches: byte_at(s, 16) as usize * 256 + byte_at(s, 17) as usize,
+        length: number(record, 1) as usize,
+        cells: number(record, 5) as usize,
+        room: number(record, 9) as usize,
+        fill: byte_at(record, 13),
+        step: byte_at(record, 14),
+        more: byte_at(record, 15),
+        patches: short(record, 16),
     }
 }

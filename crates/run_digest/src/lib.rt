@@ -16,11 +16,5 @@ fn with_byte(d: u64, b: u8) -> u64
 pub fn with_bytes(d: u64, bytes: &[u8]) -> u64
     ensures { result ≡ digest_of d bytes.now }
 {
-    let mut digest = d;
-    let mut i: usize = 0;
-    while i < bytes.len() {
-        digest = with_byte(digest, bytes[i]);
-        i += 1;
-    }
-    digest
+    bytes.iter().fold(d, |digest, b| with_byte(digest, *b))
 }

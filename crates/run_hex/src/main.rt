@@ -5,33 +5,22 @@ mod header;
 mod line;
 
 use header::Header;
-use hex_rules::Converted;
 use line::Line;
 use std::io;
 use std::io::{BufReader, BufWriter, Read, Write};
 
-// The line of what a text came to, with the whole lent output.
-fn line_of(c: Converted, output: &[u8]) -> Line {
-    let digest = run_digest::with_bytes(0, output);
-    match c {
-        Converted::Made(size) => Line {
-            number: 0,
-            value: size,
-            output: digest,
-        },
-        Converted::Refused { number, line } => Line {
-            number,
-            value: line,
-            output: digest,
-        },
-    }
-}
-
 // The line of a text, with the output that is lent for its recipe.
 fn converted(h: Header, text: &[u8], output: &mut [u8]) -> Line {
     output.fill(0xEE);
-    let c = hex_read::convert(text, h.module, h.group, output);
-    line_of(c, output)
+    let (number, value) = match hex_read::convert(text, h.numbers, output) {
+        Ok(size) => (0, size),
+        Err(refusal) => (refusal.fault.number(), refusal.line),
+    };
+    Line {
+        number,
+        value,
+        output: run_digest::with_bytes(0, output),
+    }
 }
 
 // One text: its bytes are read, and its line is printed.
