@@ -32,20 +32,6 @@ use Rattle.differences.proofs.Within.{blocks_within, recipe_within, stops_number
 abbrev Said : ℕ → Type 0
 Said n = ((20 ≤ n) × (n ≤ 25)) ⊎ (n ≡ 36)
 
--- the number of a refusal, and what a shorter recipe says
-same_number : {n k m l : ℕ} → Refused n k ≡ Refused m l → n ≡ m
-same_number e = cc
-
-same_erases : {e s e' s' : ℕ} → Kept e s ≡ Kept e' s' → e ≡ e'
-same_erases q = cc
-
-same_size : {e s e' s' : ℕ} → Kept e s ≡ Kept e' s' → s ≡ s'
-same_size q = cc
-
--- one is not the other
-not_kept : {e s n k : ℕ} → Kept e s ≡ Refused n k → ⊥
-not_kept q = let z : ◌≡◌ {A = ℕ} 0 1 = cc in omega arith
-
 -- what is kept of a recipe whose bytes are read to their end takes no more of them
 kept_of_within : (recipe image : List ℕ) → (reading recipe).stop ≡ at_end true → length (printed (kept_of recipe image)) ≤ length recipe
 unfolding kept_of
@@ -60,11 +46,11 @@ unless_said kept cells room number place enough = go (eqb cells flash_cells)
         → cond b (cond (ltb room (length (printed kept))) (Refused 26 0) (Kept (block_count kept.items) (length (printed kept))))
         (Refused 36 0)
         ≡ Refused number place → Said number
-    go false e = inr (sym (same_number e))
+    go false e = inr cc
     go true e =
         let f = le-ltb room (length (printed kept)) (omega (arith, enough)) in
-        absurd (not_kept
-        (sym (ap (λ (b : Bool). cond b (Refused 26 0) (Kept (block_count kept.items) (length (printed kept)))) f) ∙ e))
+        let x = sym (ap (λ (b : Bool). cond b (Refused 26 0) (Kept (block_count kept.items) (length (printed kept)))) f) ∙ e in
+        absurd cc
 
 -- a shorter recipe that is made: it has room
 unless_kept : (kept : Recipe) (cells room erases size : ℕ) → unless_refused kept cells room ≡ Kept erases size
@@ -74,10 +60,12 @@ unless_kept kept cells room erases size = go (eqb cells flash_cells) (ltb room (
     go : (b f : Bool) → ltb room (length (printed kept)) ≡ f
         → cond b (cond f (Refused 26 0) (Kept (block_count kept.items) (length (printed kept)))) (Refused 36 0) ≡ Kept erases size
         → (erases ≡ block_count kept.items) × (size ≡ length (printed kept)) × (size ≤ room)
-    go false f t e = absurd (not_kept (sym e))
-    go true true t e = absurd (not_kept (sym e))
+    go false f t e = absurd cc
+    go true true t e = absurd cc
     go true false t e =
-        let s = same_size e in (sym (same_erases e), sym s, omega (arith, ltb-false room (length (printed kept)) t, s))
+        let s : length (printed kept) ≡ size = cc in
+        let m : block_count kept.items ≡ erases = cc in
+        (sym m, sym s, omega (arith, ltb-false room (length (printed kept)) t, s))
 
 -- what is answered of a recipe and an image by the definition
 module _ (recipe image : List ℕ) (room : ℕ) {answer : Differences} (said : answer ≡ differences recipe image room) where
@@ -92,9 +80,9 @@ module _ (recipe image : List ℕ) (room : ℕ) {answer : Differences} (said : a
           ≡ Refused number place → Said number
       go (fault m p) t e =
           let w = stops_numbered 2049 recipe 0 1 false m p t in
-          let i = same_number e in
+          let i : m ≡ number = cc in
           inl (omega (arith, w.0, i), omega (arith, w.1, i))
-      go (at_end false) t e = let i = same_number e in inl (omega (arith, i), omega (arith, i))
+      go (at_end false) t e = let i : 20 ≡ number = cc in inl (omega (arith, i), omega (arith, i))
       go (at_end true) t e =
           unless_said (kept_of recipe image) (length image) room number place
           (omega (arith, kept_of_within recipe image t, enough)) e
@@ -113,8 +101,8 @@ module _ (recipe image : List ℕ) (room : ℕ) {answer : Differences} (said : a
       go : (s : Stop) → (reading recipe).stop ≡ s
           → answered (answer_at s (length recipe) (frame_count (recipe_of recipe))) (kept_of recipe image) (length image) room
           ≡ Kept erases size → (size ≤ room) × (size ≤ length recipe) × (erases ≤ size)
-      go (fault m p) t e = absurd (not_kept (sym e))
-      go (at_end false) t e = absurd (not_kept (sym e))
+      go (fault m p) t e = absurd cc
+      go (at_end false) t e = absurd cc
       go (at_end true) t e =
           let k = unless_kept (kept_of recipe image) (length image) room erases size e in (
             k.2,

@@ -50,10 +50,10 @@ Within bytes left r = r.stop ≡ at_end true → to_leave left + length (printed
 
 -- ends and faults
 no_end : {n p : ℕ} {b : Bool} → fault n p ≡ at_end b → ⊥
-no_end e = let z : ◌≡◌ {A = ℕ} 0 1 = cc in omega arith
+no_end e = cc
 
 not_left : {P : Type 0} → at_end false ≡ at_end true → P
-not_left e = absurd (let z : ◌≡◌ {A = ℕ} 0 1 = cc in omega arith)
+not_left e = absurd cc
 
 -- one item, by its kind, where the claim holds of every shorter reading
 module _ (looks : ℕ)

@@ -34,44 +34,23 @@ fn shorten(rt: &HostRuntime, recipe: &[u8], image: &[u8]) -> ExitCode
     }
 }
 
-// The same of the first n cells.
-fn shorten_by(rt: &HostRuntime, recipe: &[u8], cells: &[u8; CELLS], n: usize) -> ExitCode
-    requires { length recipe.now ≤ 139132 }
-{
-    shorten(rt, recipe, input::first(cells, n))
-}
-
 // Makes the recipe shorter by the image that the second argument names.
 fn shorten_recipe(rt: &HostRuntime, recipe: &[u8]) -> ExitCode
     requires { length recipe.now ≤ 139132 }
 {
     let mut cells = [0u8; CELLS];
     match program_io::read_argument(rt, 2, &mut cells) {
-        Some(n) => shorten_by(rt, recipe, &cells, n),
+        Some(n) => shorten(rt, recipe, &cells[..n]),
         None => ExitCode::SUCCESS,
     }
 }
 
-// Makes the recipe of the first n bytes shorter, or says that the file is too long.
-fn shorten_first(rt: &HostRuntime, bytes: &[u8], n: usize) -> ExitCode
-    requires { 139133 ≤ length bytes.now }
-{
-    if n > MOST {
-        return output::refuse_long(rt);
-    }
-    shorten_recipe(rt, &bytes[..n])
-}
-
-// The same of all that was asked for.
-fn shorten_asked(rt: &HostRuntime, bytes: &[u8; ASKED], n: usize) -> ExitCode {
-    shorten_first(rt, bytes, n)
-}
-
-// Makes the recipe shorter that the first argument names.
+// Makes the recipe shorter that the first argument names, or says that the file is too long.
 fn shorten_file(rt: &HostRuntime) -> ExitCode {
     let mut bytes = [0u8; ASKED];
     match program_io::read_argument(rt, 1, &mut bytes) {
-        Some(n) => shorten_asked(rt, &bytes, n),
+        Some(n) if n > MOST => output::refuse_long(rt),
+        Some(n) => shorten_recipe(rt, &bytes[..n]),
         None => ExitCode::SUCCESS,
     }
 }

@@ -34,9 +34,7 @@ pub fn turn(recipe: &[u8], place: usize, image: &[u8], last: &mut [Option<u32>])
 {
     let address = recipe_address::address_of(recipe, place) as usize;
     let from = place + 4;
-    let block = address / 64;
-    let before = last[block];
-    last[block] = Some(from as u32);
+    let before = last[address / 64].replace(from as u32);
     memory_same::same(
         standing(recipe, image, address, before),
         &recipe[from..from + 64],

@@ -80,6 +80,7 @@ pub fn look_over(
     ensures { Found recipe.now image.now result places.new }
 {
     let mut w = START;
+    // An item's size says where the next one is: that is no index that counts, which a `for` has.
     while w.place < recipe.len() {
         let place = w.place;
         if let Err(fault) = recipe_fault::fault_at(recipe, place, w.number, w.ended) {

@@ -3,10 +3,15 @@
 -- Assumes nothing.
 use borrow.Author.Tests.{not-false, not-true}
 use native.Mathlib.Omega.{arith}
+use Rattle.std.proofs.Common.{ℕ, List, get_or, Fits, w8}
+use Rattle.base.specs.Parts.{Bytes}
 use Rattle.base.proofs.Bytes.{bytes_by}
 use Rattle.recipe.proofs.Answers.{numbered}
 use Rattle.differs_write.proofs.Seeing.{seen_start, seen_open, seen_fault, seen_done, seen_block, dropped_room, seen_next}
 use Rattle.differs_write.proofs.walk.look_over.Goals as goal
+
+bytes : (s : List ℕ) → ((i : ℕ) → Fits w8 (get_or s i 0)) → Bytes s
+bytes s fits = bytes_by s (λ i l. omega (arith, fits i))
 
 pub loop-w-init : goal.loop-w-init
 loop-w-init c = seen_start c.args.recipe.now c.args.image.now c.args.last.now c.args.places.now c.requires.0 c.requires.1 c.requires.2
@@ -16,16 +21,14 @@ returns-in-Err c = seen_fault c.loop-w.invariant _ c.loop-w-test.true c.in-Err.e
 
 pub keeps-kept-requires : goal.keeps-kept-requires
 keeps-kept-requires c =
-    let bytes = bytes_by c.args.recipe.now (λ i l. omega (arith, c.type_inv.recipe i)) in
-    (c.loop-w-test.true, seen_block c.loop-w.invariant c.loop-w-test.true c.in_default.ensures bytes c.requires.0)
+    (c.loop-w-test.true, seen_block c.loop-w.invariant c.loop-w-test.true c.in_default.ensures (bytes _ c.type_inv.recipe) c.requires.0)
 
 pub bounds-places-w : goal.bounds-places-w
 bounds-places-w c = dropped_room c.loop-w.invariant c.loop-w-test.true c.in_default.ensures
 
 pub loop-w-preserved : goal.loop-w-preserved
 loop-w-preserved c =
-    let bytes = bytes_by c.args.recipe.now (λ i l. omega (arith, c.type_inv.recipe i)) in
-    seen_next c.loop-w.invariant c.loop-w-test.true c.in_default.ensures bytes c.keeps-kept.result c.keeps-kept.new.last c.next-w.result c.keeps-kept.ensures.0 c.keeps-kept.ensures.1 c.next-w.ensures
+    seen_next c.loop-w.invariant c.loop-w-test.true c.in_default.ensures (bytes _ c.type_inv.recipe) c.keeps-kept.result c.keeps-kept.new.last c.next-w.result c.keeps-kept.ensures.0 c.keeps-kept.ensures.1 c.next-w.ensures
 
 pub returns-then-not-w : goal.returns-then-not-w
 returns-then-not-w c = seen_open c.loop-w.invariant c.loop-w-test.false (not-true _ c.if-not-w.true)
