@@ -1,8 +1,9 @@
 -- A byte that names a kind is its code, and one that names none is unknown.
 -- Assumes nothing.
-use mathlib.Core.Path.{◌≡◌, refl, ◌∙◌, sym}
+use mathlib.Core.Path.{◌≡◌, refl, ap, ◌∙◌, sym}
 use mathlib.Core.Bool.{Bool, true, false, cond}
 use Prim.Native.Nat.{ℕ}
+use native.Mathlib.Omega.{arith}
 use lib.Dec.{eqb}
 use borrow.Author.Tests.{eqb-true}
 use Rattle.std.specs.Prelude.{Option, Some, None}
@@ -40,8 +41,25 @@ module _ (byte : ℕ) where
       go false false false true p q s t e = cc
       go false false false false p q s t e = rw (p, q, s, t)
 
+-- the same of a kind that was looked at
+pub named_as : (byte : ℕ) (k k' : Kind) → kind_named byte ≡ Some k → k ≡ k' → byte ≡ code k'
+named_as byte k k' e q = named byte k e ∙ ap code q
+
 pub known_code : (k : Kind) → known (code k) ≡ true
 known_code Open = refl
 known_code Block = refl
 known_code Row = refl
 known_code Leave = refl
+
+coded : (k : Kind) → kind_named (code k) ≡ Some k
+coded Open = refl
+coded Block = refl
+coded Row = refl
+coded Leave = refl
+
+-- a byte that names none is no kind's
+pub none_named : (byte : ℕ) → kind_named byte ≡ None → (k : Kind) → byte ≡ code k → ⊥
+none_named byte e k q =
+    let no : None ≡ Some k = sym e ∙ ap kind_named q ∙ coded k in
+    let z : ◌≡◌ {A = ℕ} 0 1 = cc in
+    absurd (omega arith)
