@@ -21,7 +21,7 @@ pub fn is_response(frame: &[u8]) -> bool
     base::byte_at(frame, 1) % 16 % 2 == 1
 }
 
-// Whether a module and a group are the node's own.
+// Whether a module and a group are the node's own. Two parameters, as the definition of the same name in specs has them.
 fn are_own(p: Plate, m: Module, g: Group) -> bool
     ensures { result ≡ are_own p m g }
 {

@@ -4,7 +4,7 @@
 mod making;
 mod reading;
 
-ghost use Rattle.std.specs.Prelude.{◌≡◌, ◌<◌};
+ghost use Rattle.std.specs.Prelude.{◌≡◌};
 ghost use Rattle.frame_rules.specs.Frame.{type_of};
 ghost use Rattle.memory_address.specs.Places.{eeprom_cell};
 ghost use Rattle.node_rules.specs.Replies.{reply_of, has_started, firmware_reply, description_data, cells_at, one_reply, two_replies, replying};
@@ -19,25 +19,32 @@ fn has_started(m: Mode) -> bool
     matches!(m, Mode::Normal(true))
 }
 
-// The reply to 0x105 and 0x106, of type 0x1F1 where 0x106 finds firmware not started.
-fn firmware(n: Node, t: u16, flash: &[u8]) -> Replies<24>
-    requires { t < 4096 }
-    ensures { result ≡ one_reply (firmware_reply n t flash.now) }
+// A reply to this frame, with its type and these data.
+fn reply_to(p: Plate, frame: &[u8], d: [u8; 8]) -> [u8; 12]
+    ensures { result ≡ reply_of p (type_of frame.now) d }
 {
-    if t == 0x106 && !has_started(n.mode) {
-        return making::one(n.plate, 0x1F1, reading::firmware_error(flash));
+    making::reply(p, node_frame::type_of(frame), d)
+}
+
+// The reply to 0x105 and 0x106, of type 0x1F1 where 0x106 finds firmware not started.
+fn firmware(n: Node, frame: &[u8], flash: &[u8]) -> [u8; 12]
+    ensures { result ≡ firmware_reply n (type_of frame.now) flash.now }
+{
+    if node_frame::type_of(frame) == 0x106 && !has_started(n.mode) {
+        return making::reply(n.plate, 0x1F1, reading::firmware_error(flash));
     }
-    making::one(n.plate, t, reading::firmware_type(flash))
+    reply_to(n.plate, frame, reading::firmware_type(flash))
 }
 
 // The two frames of a description.
-fn describe(p: Plate, t: u16, eeprom: &[u8]) -> Replies<24>
-    requires { t < 4096 }
-    ensures { result ≡ two_replies (reply_of p t (description_data 0 eeprom.now))
-        (reply_of p t (description_data 8 eeprom.now)) }
+fn describe(p: Plate, frame: &[u8], eeprom: &[u8]) -> Replies<24>
+    ensures { result ≡ two_replies (reply_of p (type_of frame.now) (description_data 0 eeprom.now))
+        (reply_of p (type_of frame.now) (description_data 8 eeprom.now)) }
 {
     let at = (DESCRIPTION.0 - EEPROM_FIRST) as usize;
-    making::two(p, t, base::eight(eeprom, at), base::eight(eeprom, at + 8))
+    let first = reply_to(p, frame, base::eight(eeprom, at));
+    let second = reply_to(p, frame, base::eight(eeprom, at + 8));
+    making::two(first, second)
 }
 
 // The cell of EEPROM that a place names; a number below its first place names the first cell.
@@ -58,10 +65,10 @@ fn cells_at(at: Address, flash: &[u8], eeprom: &[u8]) -> [u8; 8]
 }
 
 // One reply to this frame, with its type and these data.
-fn reply_to(p: Plate, frame: &[u8], d: [u8; 8]) -> Replies<24>
+fn single(p: Plate, frame: &[u8], d: [u8; 8]) -> Replies<24>
     ensures { result ≡ one_reply (reply_of p (type_of frame.now) d) }
 {
-    making::one(p, node_frame::type_of(frame), d)
+    making::one(reply_to(p, frame, d))
 }
 
 // The replies of an effect to this frame, over the memories as it left them.
@@ -71,16 +78,16 @@ pub fn replies(reply: Reply, n: Node, frame: &[u8], flash: &[u8], eeprom: &[u8])
     let plate = n.plate;
     match reply {
         Reply::Silent => making::none(),
-        Reply::Entered => reply_to(
+        Reply::Entered => single(
             plate,
             frame,
             [0xFF, 0xFF, 0x03, 0x04, 0xFF, 0xFF, 0xFF, 0xFF],
         ),
-        Reply::Hardware => reply_to(plate, frame, reading::hardware(plate)),
-        Reply::Firmware => firmware(n, node_frame::type_of(frame), flash),
-        Reply::Described => describe(plate, node_frame::type_of(frame), eeprom),
-        Reply::Device => reply_to(plate, frame, reading::device(plate)),
-        Reply::Echoed => reply_to(plate, frame, base::eight(frame, 4)),
-        Reply::Cells(at) => reply_to(plate, frame, cells_at(at, flash, eeprom)),
+        Reply::Hardware => single(plate, frame, reading::hardware(plate)),
+        Reply::Firmware => making::one(firmware(n, frame, flash)),
+        Reply::Described => describe(plate, frame, eeprom),
+        Reply::Device => single(plate, frame, reading::device(plate)),
+        Reply::Echoed => single(plate, frame, base::eight(frame, 4)),
+        Reply::Cells(at) => single(plate, frame, cells_at(at, flash, eeprom)),
     }
 }

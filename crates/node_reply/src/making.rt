@@ -15,7 +15,7 @@ pub fn none() -> Replies<24>
 }
 
 // A reply of this type with these data.
-fn reply(p: Plate, t: u16, d: [u8; 8]) -> [u8; 12]
+pub fn reply(p: Plate, t: u16, d: [u8; 8]) -> [u8; 12]
     requires { t < 4096 }
     ensures { result ≡ reply_of p t d }
 {
@@ -26,23 +26,22 @@ fn reply(p: Plate, t: u16, d: [u8; 8]) -> [u8; 12]
     ]
 }
 
-// One reply of this type with these data.
-pub fn one(p: Plate, t: u16, d: [u8; 8]) -> Replies<24>
-    requires { t < 4096 }
-    ensures { result ≡ one_reply (reply_of p t d) }
+// One reply.
+pub fn one(reply: [u8; 12]) -> Replies<24>
+    ensures { result ≡ one_reply reply }
 {
     let mut bytes = [0; 24];
-    bytes[..12].copy_from_slice(&reply(p, t, d));
+    bytes[..12].copy_from_slice(&reply);
     Replies { count: 1, bytes }
 }
 
-// Two replies of this type.
-pub fn two(p: Plate, t: u16, d: [u8; 8], e: [u8; 8]) -> Replies<24>
-    requires { t < 4096 }
-    ensures { result ≡ two_replies (reply_of p t d) (reply_of p t e) }
+// Two replies.
+pub fn two(first: [u8; 12], second: [u8; 12]) -> Replies<24>
+    ensures { result ≡ two_replies first second }
 {
     let mut bytes = [0; 24];
-    bytes[..12].copy_from_slice(&reply(p, t, d));
-    bytes[12..].copy_from_slice(&reply(p, t, e));
+    let (front, back) = bytes.split_at_mut(12);
+    front.copy_from_slice(&first);
+    back.copy_from_slice(&second);
     Replies { count: 2, bytes }
 }
