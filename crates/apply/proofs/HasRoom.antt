@@ -17,7 +17,7 @@ use Rattle.base.proofs.Choice.{by_cond}
 use Rattle.node_rules.specs.declared.Node.{Node}
 use Rattle.recipe.specs.Frames.{frame_count}
 use Rattle.recipe.specs.Reading.{Stop, at_end, fault, read_from, reading, recipe_of}
-use Rattle.recipe.specs.Translation.{Translated, Frames, Refused, answer_at, unless_short, checked, translated}
+use Rattle.recipe.specs.Translation.{Translated, Frames, Refused, in_numbers, answer_at, unless_short, checked, translated}
 use Rattle.update_deliver.specs.Delivering.{Left, room_for, deliver_by, deliver_step}
 use Rattle.update_deliver.proofs.Outcome.{room_within, accepted_fits}
 use Rattle.update_deliver.specs.contracts.deliver.{signature}
@@ -86,7 +86,7 @@ module _ (recipe : List ℕ) (n : Node) (flash eeprom frames answers : List ℕ)
 pub apply_has_room : (κs : Lfts 5) (a : ArgsD signature κs) (r : ResD signature κs) (s : AtExit (ended_of 5 kinds.ps kinds.r) κs)
     → reads.Post κs a r s
     → length a.0.now ≤ 4096 → 12996 ≤ length a.1.1.1.1.0.now → 15162 ≤ length a.1.1.1.1.1.0.now
-    → (number place : ℕ) → r.translated ≡ Refused number place → (20 ≤ number) × (number ≤ 24)
+    → (number place : ℕ) → in_numbers r.translated ≡ Refused number place → (20 ≤ number) × (number ≤ 24)
 apply_has_room κs a r s p =
     step_has_room a.0.now a.1.0 a.1.1.0.now a.1.1.1.0.now a.1.1.1.1.0.now
     a.1.1.1.1.1.0.now p

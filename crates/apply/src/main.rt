@@ -12,7 +12,6 @@ ghost use Rattle.node_rules.specs.Record.{plain, fresh_node};
 ghost use Rattle.node_rules.specs.Restart.{restart_step};
 
 use node_rules::{Node, Pin};
-use recipe::Translated;
 use std::process::ExitCode;
 
 // The longest recipe that is applied, in bytes.
@@ -54,10 +53,9 @@ fn apply(rt: &HostRuntime, recipe: &[u8]) -> ExitCode
         &mut frames,
         &mut answers,
     );
-    let translated = delivered.translated;
-    match translated {
-        Translated::Refused { number, place } => output::print_refusal(rt, number, place),
-        Translated::Frames(count) => output::print_answers(rt, &answers, count),
+    match delivered.translated {
+        Ok(count) => output::print_answers(rt, &answers, count),
+        Err(refusal) => output::print_refusal(rt, refusal),
     }
 }
 

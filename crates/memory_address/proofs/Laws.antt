@@ -1,7 +1,6 @@
 -- The laws of the address rule, by which every other crate knows it: where the cells of a legal command lie, which cells no write or
--- erase covers, and that what may be erased may be written, and what may be written be read; and the one test of a number that each
--- part is in each memory. Each holds of the rule because it holds of its three parts, the row to read, the row to write and the block
--- to erase; only the laws of the parts look at their bounds.
+-- erase covers, and that what may be erased may be written, and what may be written be read. Each holds of the rule because it holds of
+-- its three parts, the row to read, the row to write and the block to erase; only the laws of the parts look at their bounds.
 -- No law of another crate opens the rule: beside these, only examples that are computed do.
 -- Assumes nothing.
 use Rattle.std.specs.Prelude.{Option, Some, None, Result, Ok, Err}
@@ -12,7 +11,7 @@ use native.Mathlib.Nat.{suc-ne-zero}
 use native.Mathlib.Omega.{arith}
 use mathlib.Core.Logic.{◌⊎◌, inl, inr}
 use lib.Dec.{leb, eqb}
-use borrow.Author.Tests.{leb-true, ltb-true, ltb-false, eqb-true, eq-eqb, le-leb, lt-leb, lt-ltb}
+use borrow.Author.Tests.{leb-true, ltb-true, ltb-false, eqb-true, eq-eqb, le-leb, lt-ltb}
 use Rattle.base.proofs.Choice.{by_cond, both_true, true_both}
 use Rattle.memory_address.specs.declared.Address.TheVariants.{Flash, Eeprom}
 use Rattle.memory_address.specs.Rule.{multiple_in, rim, last_flash_row, last_block, first_eeprom_row, last_eeprom_row, cells_of}
@@ -60,40 +59,6 @@ block_within a =
     by_cond (Within 64 a) (multiple_in 64 rim last_block a) _ _
     (λ t. let m = multiple_in_lem 64 rim last_block a t in (refl, omega arith, omega arith))
     (λ _. tt)
-
--- whether a row lies in FLASH, or in EEPROM, is one test: a number that is a row of FLASH is no row of EEPROM
-row_flash : (a : ℕ) → is_flash (row_of a) ≡ multiple_in 8 rim last_flash_row a
-row_flash a =
-    by_cond (λ (r : Option Address). is_flash r ≡ multiple_in 8 rim last_flash_row a) (multiple_in 8 rim last_flash_row a) _ _
-    (λ t. sym t)
-    (λ f.
-    by_cond (λ (r : Option Address). is_flash r ≡ multiple_in 8 rim last_flash_row a) (multiple_in 8 first_eeprom_row last_eeprom_row a) _ _
-    (λ _. sym f) (λ _. sym f))
-
-row_eeprom : (a : ℕ) → is_eeprom (row_of a) ≡ multiple_in 8 first_eeprom_row last_eeprom_row a
-row_eeprom a =
-    by_cond (λ (r : Option Address). is_eeprom r ≡ multiple_in 8 first_eeprom_row last_eeprom_row a) (multiple_in 8 rim last_flash_row a) _ _
-    (λ t. let m = multiple_in_lem 8 rim last_flash_row a t in simp (lt-leb first_eeprom_row a (omega arith)))
-    (λ _.
-    by_cond (λ (r : Option Address). is_eeprom r ≡ multiple_in 8 first_eeprom_row last_eeprom_row a) (multiple_in 8 first_eeprom_row last_eeprom_row a) _ _
-    (λ t. sym t) (λ f. sym f))
-
--- and so for each part: these are the tests of `legal_flash` and `legal_eeprom`
-pub read_flash : (a : ℕ) → is_flash (read_row a) ≡ multiple_in 8 rim last_flash_row a
-read_flash a = row_flash a
-
-pub read_eeprom : (a : ℕ) → is_eeprom (read_row a) ≡ multiple_in 8 first_eeprom_row last_eeprom_row a
-read_eeprom a = row_eeprom a
-
-pub write_flash_lem : (a : ℕ) → is_flash (write_row a) ≡ multiple_in 8 rim last_flash_row a
-write_flash_lem a = row_flash a
-
-pub write_eeprom_lem : (a : ℕ) → is_eeprom (write_row a) ≡ multiple_in 8 first_eeprom_row last_eeprom_row a
-write_eeprom_lem a = row_eeprom a
-
-pub block_flash : (a : ℕ) → is_flash (block_of a) ≡ multiple_in 64 rim last_block a
-block_flash a =
-    by_cond (λ (r : Option Address). is_flash r ≡ multiple_in 64 rim last_block a) (multiple_in 64 rim last_block a) _ _ (λ t. sym t) (λ f. sym f)
 
 -- a row of FLASH from the rim on may be written
 in_write : (a : ℕ) → 0x001000 ≤ a → a < 0x010000 → a % 8 ≡ 0 → is_flash (write_row a) ≡ true
@@ -206,15 +171,6 @@ eeprom_within a command h =
 -- EEPROM has no erase
 pub no_eeprom_erase : (a : ℕ) → legal_eeprom a 0x03 ≡ false
 no_eeprom_erase a = rw (erase_ruled a) (no_eeprom_block a)
-
--- a command other than read, write and erase is legal nowhere, and on EEPROM neither is an erase
-pub no_other_flash : (a command : ℕ) → (command ≡ 0x01 → ⊥) → (command ≡ 0x02 → ⊥) → (command ≡ 0x03 → ⊥) → legal_flash a command ≡ false
-no_other_flash a command r w b =
-    by_command (λ (x : Option Address). is_flash x ≡ false) a command (λ e. absurd (r e)) (λ e. absurd (w e)) (λ e. absurd (b e)) refl
-
-pub no_other_eeprom : (a command : ℕ) → (command ≡ 0x01 → ⊥) → (command ≡ 0x02 → ⊥) → legal_eeprom a command ≡ false
-no_other_eeprom a command r w =
-    by_command (λ (x : Option Address). is_eeprom x ≡ false) a command (λ e. absurd (r e)) (λ e. absurd (w e)) (λ _. no_eeprom_block a) refl
 
 -- the eight rows of a block that may be erased may be written
 pub block_rows : (a i : ℕ) → legal_flash a 0x03 ≡ true → i < 8 → legal_flash (a + 8 * i) 0x02 ≡ true

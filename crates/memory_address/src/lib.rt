@@ -99,50 +99,38 @@ fn multiple_in(step: u32, low: u32, high: u32, a: u32) -> bool
     requires { 0 < step }
     ensures { result ≡ multiple_in step low high a }
 {
-    if a < low {
-        return false;
-    }
-    if high < a {
-        return false;
-    }
-    a % step == 0
+    (low..=high).contains(&a) && a % step == 0
 }
 
-// A row that may be read or written: a number up to the last row of FLASH can only be FLASH's, one above it only EEPROM's.
+// A row that may be read or written.
 fn row_of(a: u32) -> Option<Address>
     ensures { result ≡ row_of a }
 {
-    if a <= LAST_FLASH_ROW {
-        if multiple_in(8, RIM, LAST_FLASH_ROW, a) {
-            return Some(Address::Flash(FlashAddress(a)));
-        }
-        return None;
+    if multiple_in(8, RIM, LAST_FLASH_ROW, a) {
+        Some(Address::Flash(FlashAddress(a)))
+    } else if multiple_in(8, EEPROM_FIRST, LAST_EEPROM_ROW, a) {
+        Some(Address::Eeprom(EepromPlace(a)))
+    } else {
+        None
     }
-    if multiple_in(8, EEPROM_FIRST, LAST_EEPROM_ROW, a) {
-        return Some(Address::Eeprom(EepromPlace(a)));
-    }
-    None
 }
 
 // A block that may be erased.
 fn block_of(a: u32) -> Option<Address>
     ensures { result ≡ block_of a }
 {
-    if multiple_in(64, RIM, LAST_BLOCK, a) {
-        return Some(Address::Flash(FlashAddress(a)));
-    }
-    None
+    multiple_in(64, RIM, LAST_BLOCK, a).then_some(Address::Flash(FlashAddress(a)))
 }
 
 // The address rule: the cells that a command may work on at a number, or none where address or command is illegal. Numbers of more than
 // 24 bits and commands other than read, write and erase are illegal.
+#[tactic(auto, unfolding(crate::specs::Rule::ruled))]
 pub fn rule(address: u32, command: u32) -> Option<Address>
     ensures { result ≡ ruled address command }
 {
     match command {
-        0x01 => row_of(address),
-        0x02 => row_of(address),
-        0x03 => block_of(address),
+        READ | WRITE => row_of(address),
+        ERASE => block_of(address),
         _ => None,
     }
 }
@@ -151,23 +139,12 @@ pub fn rule(address: u32, command: u32) -> Option<Address>
 pub fn legal_flash(at: FlashAddress, command: u32) -> bool
     ensures { result ≡ legal_flash at.0 command }
 {
-    let a = at.0;
-    match command {
-        0x01 => multiple_in(8, RIM, LAST_FLASH_ROW, a),
-        0x02 => multiple_in(8, RIM, LAST_FLASH_ROW, a),
-        0x03 => multiple_in(64, RIM, LAST_BLOCK, a),
-        _ => false,
-    }
+    matches!(rule(at.0, command), Some(Address::Flash(_)))
 }
 
 // Whether a command is legal on EEPROM at this place.
 pub fn legal_eeprom(place: EepromPlace, command: u32) -> bool
     ensures { result ≡ legal_eeprom place.0 command }
 {
-    let a = place.0;
-    match command {
-        0x01 => multiple_in(8, EEPROM_FIRST, LAST_EEPROM_ROW, a),
-        0x02 => multiple_in(8, EEPROM_FIRST, LAST_EEPROM_ROW, a),
-        _ => false,
-    }
+    matches!(rule(place.0, command), Some(Address::Eeprom(_)))
 }

@@ -5,49 +5,34 @@ ghost use Rattle.std.specs.Prelude.{◌≡◌};
 ghost use Rattle.memory_leaves.specs.Leaves.{flash_cells_after, eeprom_cells_after, erased_cells};
 
 // Each of eight cells keeps the bits that it and the new byte both have. Other lengths leave the cells alone.
+#[tactic(auto, unfolding(crate::specs::Leaves::flash_cells_after))]
 pub fn write_flash_cells(cells: &mut [u8], new: &[u8])
     ensures { cells.new ≡ flash_cells_after cells.old new.now }
 {
-    if cells.len() != 8 {
-        return;
-    }
-    if new.len() != 8 {
-        return;
-    }
-    let mut i = 0;
-    while i < 8 {
-        cells[i] = cells[i] & new[i];
-        i += 1;
+    if cells.len() == 8 && new.len() == 8 {
+        // Tried: `cells.iter_mut().zip(new)`, of whose cells a proof knows nothing once the loop is over.
+        for i in 0..8 {
+            cells[i] &= new[i];
+        }
     }
 }
 
 // Eight cells become the new bytes. Other lengths leave the cells alone.
+#[tactic(auto, unfolding(crate::specs::Leaves::eeprom_cells_after))]
 pub fn write_eeprom_cells(cells: &mut [u8], new: &[u8])
     ensures { cells.new ≡ eeprom_cells_after cells.old new.now }
 {
-    if cells.len() != 8 {
-        return;
-    }
-    if new.len() != 8 {
-        return;
-    }
-    let mut i = 0;
-    while i < 8 {
-        cells[i] = new[i];
-        i += 1;
+    if cells.len() == 8 && new.len() == 8 {
+        cells.copy_from_slice(new);
     }
 }
 
 // Sixty-four cells become 0xFF. Another number of cells is left alone.
+#[tactic(auto, unfolding(crate::specs::Leaves::erased_cells))]
 pub fn erase_cells(cells: &mut [u8])
     ensures { cells.new ≡ erased_cells cells.old }
 {
-    if cells.len() != 64 {
-        return;
-    }
-    let mut i = 0;
-    while i < 64 {
-        cells[i] = 0xFF;
-        i += 1;
+    if cells.len() == 64 {
+        cells.fill(0xFF);
     }
 }

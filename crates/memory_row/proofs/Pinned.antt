@@ -12,7 +12,7 @@ use Rattle.memory_address.proofs.BothSides.{read_legal}
 use Rattle.memory_address.specs.Ranges.{FlashRow, EepromRow}
 use Rattle.memory_row.specs.Shown.{shown, shown_number, Shows}
 
-and_false : (x : Bool) → (x && false) ≡ false
+pub and_false : (x : Bool) → (x && false) ≡ false
 and_false true = refl
 and_false false = refl
 

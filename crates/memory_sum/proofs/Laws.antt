@@ -26,7 +26,7 @@ firmware_sum_most flash h =
     (λ t. bytes_most flash _ (eqb-true (length flash) 65536 t) (sum_most (part flash 0x001003 28669) (bytes_part flash 0x001003 28669 h)))
     (λ _. omega arith)
 
--- the worked_out sum is that of the cells 0x001003 to 0x007FFF
+-- the worked-out sum is that of the cells 0x001003 to 0x007FFF
 pub worked_out : (flash : List ℕ) → length flash ≡ 65536 → firmware_sum flash ≡ sum_of (part flash 0x001003 28669)
 unfolding firmware_sum
 worked_out flash l = rw (eq-eqb (length flash) 65536 l) refl

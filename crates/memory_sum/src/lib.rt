@@ -11,7 +11,7 @@ use memory_address::{FIRST_SUMMED, FLASH_CELLS, PAST_SUMMED, STORED_SUM};
 fn high_first(a: u8, b: u8, c: u8) -> u32
     ensures { result ≡ high_first a b c }
 {
-    (a as u32) * 65536 + (b as u32) * 256 + (c as u32)
+    u32::from_be_bytes([0, a, b, c])
 }
 
 // A sum with the cells of a part added to it, singly.
@@ -20,10 +20,8 @@ fn added_singly(sum: u32, s: &[u8]) -> u32
     ensures { (result ≡ sum + sum_of s.now) × (result ≤ sum + 255 * length s.now) }
 {
     let mut all = sum;
-    let mut i = 0;
-    while i < s.len() {
-        all += s[i] as u32;
-        i += 1;
+    for cell in s {
+        all += u32::from(*cell);
     }
     all
 }
@@ -33,13 +31,13 @@ fn sum_of(s: &[u8]) -> u32
     requires { length s.now ≤ 65536 }
     ensures { (result ≡ sum_of s.now) × (result ≤ 255 * length s.now) }
 {
-    let mut sum: u32 = 0;
-    let mut i = 0;
-    while s.len() - i >= 8 {
-        sum = added_singly(sum, &s[i..i + 8]);
-        i += 8;
+    let eights = s.chunks_exact(8);
+    let remainder = eights.remainder();
+    let mut sum = 0;
+    for eight in eights {
+        sum = added_singly(sum, eight);
     }
-    added_singly(sum, &s[i..])
+    added_singly(sum, remainder)
 }
 
 // The firmware sum: all cells 0x001003 to 0x007FFF. It never passes 24 bits. 0 where FLASH has another length than 65,536.

@@ -9,13 +9,12 @@ use Prim.Native.Nat.{ℕ, ◌+◌, ◌≤◌}
 use native.Mathlib.Omega.{arith}
 use lib.ListN.{length, take, drop, length-take, length-drop}
 use lib.Seq.{take-nil, drop-drop}
-use Rattle.node_rules.specs.declared.Node.{Node}
 use Rattle.node_rules.specs.Numbered.{UartAnswer}
 use Rattle.node_rules.specs.Record.{tidied}
 use Rattle.node_rules.specs.Uart.{UartStep, uart_after, uart_step}
 use Rattle.node_rules.specs.Runs.{State, state, end_of, behind_byte, bytes_in}
 use Rattle.node_rules.proofs.Agreement.{byte_tidied}
-use Rattle.node_piece_rules.specs.Piece.{PieceAnswer, PieceStep, piece_after, takes_none, piece_step, but_tens, taken_in_all, lasts_of, NoneRefused, NoneEmpty}
+use Rattle.node_piece_rules.specs.Piece.{PieceAnswer, PieceStep, takes_none, piece_step, but_tens, taken_in_all, lasts_of, NoneRefused, NoneEmpty}
 use Rattle.node_piece_rules.proofs.Answering.{piece_refused, piece_few}
 use Rattle.node_piece_rules.proofs.Cutting.{tidied_state, Cut, cut_more, piece_gets_on, EachHeard, heard_left, heard_piece}
 use Rattle.node.proofs.Pieces.{uart_piece_is_tidy}

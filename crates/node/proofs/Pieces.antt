@@ -12,14 +12,13 @@ use Rattle.frame_rules.specs.Frame.{type_of}
 use Rattle.node_rules.specs.declared.Pin.TheVariants.{CanAndUart}
 use Rattle.node_rules.specs.declared.Mode.TheVariants.{Normal}
 use Rattle.node_rules.specs.declared.Node.{Node}
-use Rattle.node_rules.specs.Numbered.{UartAnswer}
 use Rattle.node_rules.specs.Record.{tidied}
 use Rattle.node_rules.specs.Requests.{is_programming}
 use Rattle.node_rules.specs.Outcomes.{is_deaf}
 use Rattle.node_rules.specs.Uart.{UartStep, uart_after, uart_step, silent_on_uart}
 use Rattle.node_rules.specs.Runs.{state, bytes_in, AllTen}
 use Rattle.node_rules.specs.Others.{ButBootfl, ForOthers, LeftByOthersOnUart}
-use Rattle.node_piece_rules.specs.Piece.{PieceAnswer, PieceStep, piece_after, takes_none, no_byte, piece_step, node_before, frame_at}
+use Rattle.node_piece_rules.specs.Piece.{PieceAnswer, PieceStep, takes_none, no_byte, piece_step, node_before, frame_at}
 use Rattle.node_piece_rules.proofs.Opening.{no_byte_number, opens}
 use Rattle.node_piece_rules.proofs.Answering.{piece_none, piece_some, piece_refused, open_takes_one, open_empty}
 use Rattle.node_piece_rules.proofs.Spoiling.{piece_silent, piece_protected, piece_lengths, piece_tidy, piece_stays, piece_normal_spares, piece_deaf, piece_normal, piece_programming, piece_others}

@@ -1,5 +1,5 @@
--- A call of each function, witnessed by its real contract: what it is handed, the answer, and what stands in the memories afterwards. The
--- contracts are the generated `Reads`: nothing is said of a body. And calls one after the other.
+-- A call of each function, witnessed by its real contract: what it is handed, the answer in document 01's numbers, and what stands in the
+-- memories afterwards. The contracts are the generated `Reads`: nothing is said of a body. And calls one after the other.
 use Rattle.std.specs.Prelude.{Bool, List, [], ◌∷◌, ℕ, take, drop}
 use contract.Lifetimes.{Lfts}
 use borrow.Fn.World.{ArgsD, ResD}
@@ -9,10 +9,11 @@ use Rattle.node_rules.specs.declared.Pin.{Pin}
 use Rattle.node_rules.specs.declared.Choices.{Choices}
 use Rattle.node_rules.specs.declared.Node.{Node}
 use Rattle.node_rules.specs.Numbered.{Answer, UartAnswer, Restarted}
+use Rattle.node_rules.specs.InNumbers.{answer_in_numbers, uart_in_numbers, restarted_in_numbers}
 use Rattle.node_rules.specs.Step.{Step, after}
 use Rattle.node_rules.specs.Uart.{UartStep, uart_after}
 use Rattle.node_rules.specs.Runs.{State, state}
-use Rattle.node_piece_rules.specs.Piece.{PieceAnswer, PieceStep, piece_after}
+use Rattle.node_piece_rules.specs.Piece.{PieceAnswer, PieceStep, piece_after, piece_in_numbers}
 use Rattle.node_restart.specs.contracts.fresh as fresh
 use Rattle.node_restart.proofs.fresh.Kinds as fresh-kinds
 use Rattle.node_restart.proofs.fresh.Reads as fresh-reads
@@ -41,31 +42,31 @@ pub data Fresh : List ℕ → Node → Type 1 where
 pub data Restart : Node → Pin → Bool → List ℕ → List ℕ → Restarted → Type 1 where
   call : (κs : Lfts 2) (a : ArgsD restart.signature κs) (r : ResD restart.signature κs)
       (s : AtExit (ended_of 2 restart-kinds.ps restart-kinds.r) κs) → restart-reads.Post κs a r s
-      → Restart a.0 a.1.0 a.1.1.0 a.1.1.1.0.now a.1.1.1.1.0.now r
+      → Restart a.0 a.1.0 a.1.1.0 a.1.1.1.0.now a.1.1.1.1.0.now (restarted_in_numbers r)
 
 -- `restart_with(n, choices, passed, flash, eeprom)` may give r
 pub data RestartWith : Node → Choices → Bool → List ℕ → List ℕ → Restarted → Type 1 where
   call : (κs : Lfts 2) (a : ArgsD restart-with.signature κs) (r : ResD restart-with.signature κs)
       (s : AtExit (ended_of 2 restart-with-kinds.ps restart-with-kinds.r) κs) → restart-with-reads.Post κs a r s
-      → RestartWith a.0 a.1.0 a.1.1.0 a.1.1.1.0.now a.1.1.1.1.0.now r
+      → RestartWith a.0 a.1.0 a.1.1.0 a.1.1.1.0.now a.1.1.1.1.0.now (restarted_in_numbers r)
 
 -- `can_frame(n, f, flash, eeprom)` may give r and leave flash' and eeprom'
 pub data CanFrame : Node → List ℕ → List ℕ → List ℕ → Answer → List ℕ → List ℕ → Type 1 where
   call : (κs : Lfts 3) (a : ArgsD can-frame.signature κs) (r : ResD can-frame.signature κs)
       (s : AtExit (ended_of 3 can-frame-kinds.ps can-frame-kinds.r) κs) → can-frame-reads.Post κs a r s
-      → CanFrame a.0 a.1.0.now a.1.1.0.now a.1.1.1.0.now r s.1.1.0.now s.1.1.1.0.now
+      → CanFrame a.0 a.1.0.now a.1.1.0.now a.1.1.1.0.now (answer_in_numbers r) s.1.1.0.now s.1.1.1.0.now
 
 -- `uart_byte(n, b, flash, eeprom)` may give r and leave flash' and eeprom'
 pub data UartByte : Node → ℕ → List ℕ → List ℕ → UartAnswer → List ℕ → List ℕ → Type 1 where
   call : (κs : Lfts 2) (a : ArgsD uart-byte.signature κs) (r : ResD uart-byte.signature κs)
       (s : AtExit (ended_of 2 uart-byte-kinds.ps uart-byte-kinds.r) κs) → uart-byte-reads.Post κs a r s
-      → UartByte a.0 a.1.0 a.1.1.0.now a.1.1.1.0.now r s.1.1.0.now s.1.1.1.0.now
+      → UartByte a.0 a.1.0 a.1.1.0.now a.1.1.1.0.now (uart_in_numbers r) s.1.1.0.now s.1.1.1.0.now
 
 -- `uart_piece(n, p, flash, eeprom)` may give r and leave flash' and eeprom'
 pub data UartPiece : Node → List ℕ → List ℕ → List ℕ → PieceAnswer → List ℕ → List ℕ → Type 1 where
   call : (κs : Lfts 3) (a : ArgsD uart-piece.signature κs) (r : ResD uart-piece.signature κs)
       (s : AtExit (ended_of 3 uart-piece-kinds.ps uart-piece-kinds.r) κs) → uart-piece-reads.Post κs a r s
-      → UartPiece a.0 a.1.0.now a.1.1.0.now a.1.1.1.0.now r s.1.1.0.now s.1.1.1.0.now
+      → UartPiece a.0 a.1.0.now a.1.1.0.now a.1.1.1.0.now (piece_in_numbers r) s.1.1.0.now s.1.1.1.0.now
 
 -- ---- calls one after the other, each to the node and the memories that the one before left: all that each leaves, and what stands behind
 -- the last

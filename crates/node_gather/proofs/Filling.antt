@@ -2,19 +2,22 @@
 -- for, or as there are.
 -- Assumes nothing.
 use mathlib.Core.Path.{◌≡◌, ◌∙◌, refl, sym, ap}
-use mathlib.Core.Bool.{Bool, true, false, cond, false≢true}
+use mathlib.Core.Bool.{Bool, true, false, cond}
 use mathlib.Core.List.{List, [], ◌∷◌, ◌++◌, append_assoc, append-nil}
 use mathlib.Core.Logic.{◌⊎◌, ⊎_elim, inl, inr}
-use Prim.Native.Nat.{ℕ, zero, suc, ◌+◌, ◌≤◌, ◌<◌}
+use Prim.Native.Nat.{ℕ, zero, suc, ◌+◌, ◌≤◌}
 use native.Mathlib.Nat.{suc_inj, suc-ne-zero}
 use native.Mathlib.Omega.{arith}
-use lib.Dec.{eqb}
+use lib.Dec.{eqb, ltb}
 use lib.ListN.{length, get_or, take, drop, length-append, drop_of_length-le}
 use lib.Seq.{get_or-drop}
-use borrow.Author.Tests.{eqb-true, eq-eqb, ne_eqb, ltb-true, ltb-false}
+use borrow.Author.Tests.{eqb-true, ne_eqb, ltb-true, ltb-false}
 use Rattle.base.proofs.Choice.{by_cond, cond_false}
 use Rattle.node_rules.specs.Uart.{incomplete}
-use Rattle.node_uart.proofs.Listening.{held_behind}
+use Rattle.node_port.proofs.Keeping.{held_behind}
+use Rattle.std.specs.Prelude.{◌==◌, position}
+use Rattle.std.specs.Option.{unwrap_or}
+use Rattle.std.specs.List.{position_or_len}
 use Rattle.node_gather.specs.Internal.Gathered.{Gathered, gathered_none, one_more, gathered, skip_count, start_of}
 
 -- ---- bytes that are skipped
@@ -55,27 +58,31 @@ skip_finds (b ∷ bs) =
     by_cond (λ (k : ℕ). (k ≡ suc (length bs)) ⊎ (get_or (b ∷ bs) k 0 ≡ 0xAA)) (eqb b 0xAA) 0 (suc (skip_count bs))
     (λ e. inr (eqb-true b 0xAA e)) (λ _. ⊎_elim (λ e. inl (ap suc e)) (λ e. inr e) (skip_finds bs))
 
--- a loop over bytes that aren't 0xAA has skipped them
-pub skipped_to : (bs : List ℕ) (i : ℕ) → i ≤ skip_count bs → (i ≡ length bs) ⊎ (get_or bs i 0 ≡ 0xAA) → i ≡ skip_count bs
-unfolding skip_count
-skipped_to [] i l o = omega (arith, l)
-skipped_to (b ∷ bs) zero l o =
-    by_cond (λ (k : ℕ). 0 ≡ k) (eqb b 0xAA) 0 (suc (skip_count bs)) (λ _. refl)
-    (λ f.
-    ⊎_elim (λ e. let z : ⊥ = omega (arith, e) in absurd z)
-    (λ e. absurd (false≢true (sym f ∙ eq-eqb b 0xAA e))) o)
-skipped_to (b ∷ bs) (suc i) l o =
-    by_cond (λ (k : ℕ). suc i ≤ k → suc i ≡ k) (eqb b 0xAA) 0 (suc (skip_count bs)) (λ _ k. let z : ⊥ = omega (arith, k) in absurd z)
-    (λ _ k. ap suc (skipped_to bs i (omega (arith, k)) (⊎_elim (λ e. inl (suc_inj e)) (λ e. inr e) o)))
-    l
+-- so many stand before the place of the first 0xAA
+abbrev is_start : ℕ → Bool
+is_start b = b == 0xAA
 
--- one more that isn't
-pub skips_one : (bs : List ℕ) (i : ℕ) → i ≤ skip_count bs → i < length bs → (get_or bs i 0 ≡ 0xAA → ⊥) → i + 1 ≤ skip_count bs
-skips_one bs i l k d =
-    let ne : i ≡ skip_count bs → ⊥ = λ e.
-    ⊎_elim (λ (f : skip_count bs ≡ length bs). let z : ⊥ = omega (arith, e, f, k) in z)
-    (λ (f : get_or bs (skip_count bs) 0 ≡ 0xAA). d (ap (λ (j : ℕ). get_or bs j 0) e ∙ f)) (skip_finds bs) in
-    omega (arith, l, ne)
+skips_to : (bs : List ℕ) → skip_count bs ≡ position_or_len is_start bs
+unfolding skip_count
+skips_to [] = refl
+skips_to (b ∷ bs) = go (eqb b 0xAA) refl (skips_to bs)
+  where
+    go : (t : Bool) → eqb b 0xAA ≡ t → skip_count bs ≡ position_or_len is_start bs
+        → cond t 0 (suc (skip_count bs)) ≡ position_or_len is_start (b ∷ bs)
+    go true e h = rw e refl
+    go false e h = rw e (omega (arith, h))
+
+-- or all of them where there is none
+pub skips_found : (bs : List ℕ) → unwrap_or (position is_start bs) (length bs) ≡ skip_count bs
+skips_found bs = go (ltb (position_or_len is_start bs) (length bs)) refl
+  where
+    go : (t : Bool) → ltb (position_or_len is_start bs) (length bs) ≡ t → unwrap_or (position is_start bs) (length bs) ≡ skip_count bs
+    go true l = rw l (sym (skips_to bs))
+    go false l =
+        let few = skip_few bs in
+        let many = ltb-false (position_or_len is_start bs) (length bs) l in
+        let to = skips_to bs in
+        rw l (omega (arith, few, many, to))
 
 -- ---- bytes that are held
 

@@ -1,4 +1,3 @@
 pub mod Tight
-mod Filling
-mod Holding
-pub mod Telling
+pub mod Filling
+pub mod Holding

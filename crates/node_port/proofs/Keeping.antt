@@ -1,61 +1,56 @@
--- What stays held of fifteen bytes: each turn of the search passes over a byte that isn't 0xAA, and each turn of the copy holds one more.
+-- What stays held of bytes is what stands from the first 0xAA on, as the place of the first tells; and what is held with one byte more.
 -- Assumes nothing.
-use mathlib.Core.Path.{◌≡◌, ◌∙◌, sym, ap}
+use mathlib.Core.Path.{◌≡◌, ◌∙◌, refl, sym, ap}
+use mathlib.Core.Bool.{Bool, true, false, cond}
 use mathlib.Core.List.{List, [], ◌∷◌, ◌++◌}
-use Prim.Native.Nat.{ℕ, suc, ◌+◌, ◌-◌, ◌≤◌, ◌<◌}
+use mathlib.Core.Logic.{◌⊎◌, inl, inr}
+use Prim.Native.Nat.{ℕ, suc, ◌+◌, ◌-◌}
 use native.Mathlib.Omega.{arith}
-use lib.Dec.{eqb}
-use lib.ListN.{length, get_or, take, drop, set, length-drop}
-use lib.Seq.{take_all, take-suc, drop-cons, get_or-drop, length-take-le}
-use borrow.Author.Tests.{eq-eqb, ne_eqb}
-use Rattle.base.proofs.Choice.{cond_true, cond_false}
-use Rattle.node_rules.specs.declared.Noise.TheVariants.{KeepFromNext}
-use Rattle.node_rules.specs.declared.Receiver.{Receiver}
-use Rattle.node_rules.specs.Record.{padded, receiving}
-use Rattle.node_rules.specs.Uart.{from_start, kept_by}
-use Rattle.node_rules.proofs.Tidying.{room_behind}
+use lib.Dec.{eqb, ltb}
+use lib.ListN.{length, take, drop, length-drop, drop_of_length-le}
+use lib.Seq.{take_all}
+use borrow.Author.Tests.{ltb-false, eq-eqb}
+use Rattle.std.specs.Prelude.{Option, Some, None, position, ◌==◌}
+use Rattle.std.specs.List.{position_or_len}
+use Rattle.node_rules.specs.Uart.{from_start, held_with}
 
-module _ (fifteen : List ℕ) (l : length fifteen ≡ 15) where
-  -- all of those from `from` on
-  pub holds_all : (from i : ℕ) (held : List ℕ) → from ≤ 15 → i ≡ 15 - from → held ≡ padded (take i (drop from fifteen))
-      → ◌≡◌ {A = Receiver} (record { held = held; count = 15 - from }) (receiving (drop from fifteen))
-  holds_all from i held f e h =
-      let k : 15 - from ≡ length (drop from fifteen) = omega (arith, length-drop from fifteen) in
-      ap (λ (xs : List ℕ). record { held = xs; count = 15 - from })
-      (h ∙ ap padded (take_all i (drop from fifteen) (omega (arith, length-drop from fifteen))))
-      ∙ ap (λ (n : ℕ). record { held = padded (drop from fifteen); count = n }) k
+abbrev start : ℕ → Bool
+start b = b == 0xAA
 
-  -- one more behind the first i of them
-  pub holds_one : (from i : ℕ) → 1 ≤ from → i < 15 - from
-      → set (padded (take i (drop from fifteen))) i (get_or fifteen (from + i) 0) ≡ padded (take (i + 1) (drop from fifteen))
-  holds_one from i f h =
-      let ds = drop from fifteen in
-      let xs = take i ds in
-      let more : i < length ds = omega (arith, length-drop from fifteen) in
-      let k : length xs ≡ i = length-take-le i ds (omega arith) in
-      let next : suc i ≡ i + 1 = omega arith in
-      ap (λ (j : ℕ). set (padded xs) j (get_or fifteen (from + i) 0)) (sym k)
-      ∙ room_behind xs (get_or fifteen (from + i) 0) (omega (arith, k))
-      ∙ ap (λ (b : ℕ). padded (xs ++ (b ∷ []))) (sym (get_or-drop from fifteen i 0))
-      ∙ ap padded (sym (take-suc ds i 0 more))
-      ∙ ap (λ (j : ℕ). padded (take j ds)) next
+from_first : (bs : List ℕ) → from_start bs ≡ drop (position_or_len start bs) bs
+from_first [] = refl
+from_first (b ∷ bs) = go (eqb b 0xAA) refl (from_first bs)
+  where
+    go : (t : Bool) → eqb b 0xAA ≡ t → from_start bs ≡ drop (position_or_len start bs) bs
+        → cond t (b ∷ bs) (from_start bs) ≡ drop (position_or_len start (b ∷ bs)) (b ∷ bs)
+    go true e h = rw e refl
+    go false e h =
+        let next : 1 + position_or_len start bs ≡ suc (position_or_len start bs) = omega arith in
+        rw e (h ∙ sym (ap (λ (k : ℕ). drop k (b ∷ bs)) next))
 
-  -- the search from the second byte on
-  pub others : from_start (drop 1 fifteen) ≡ kept_by KeepFromNext fifteen
-  others = ap from_start (sym (take_all 14 (drop 1 fifteen) (omega (arith, length-drop 1 fifteen))))
+module _ (bs : List ℕ) where
+  pub from_some : (i : ℕ) → position start bs ≡ Some i → take (length bs - i) (drop i bs) ≡ from_start bs
+  from_some i e = go (ltb (position_or_len start bs) (length bs)) refl e
+    where
+      go : (t : Bool) → ltb (position_or_len start bs) (length bs) ≡ t → cond t (Some (position_or_len start bs)) None ≡ Some i
+          → take (length bs - i) (drop i bs) ≡ from_start bs
+      go true l h =
+          let at : position_or_len start bs ≡ i = cc in
+          take_all (length bs - i) (drop i bs) (omega (arith, length-drop i bs))
+          ∙ sym (from_first bs ∙ ap (λ (k : ℕ). drop k bs) at)
+      go false l h = cc
 
-  pub passes : (i : ℕ) → i < 15 → (get_or fifteen i 0 ≡ 0xAA → ⊥) → from_start (drop i fifteen) ≡ from_start (drop (i + 1) fifteen)
-  passes i h m =
-      let next : suc i ≡ i + 1 = omega arith in
-      ap from_start (drop-cons fifteen i 0 (omega arith))
-      ∙ cond_false (eqb (get_or fifteen i 0) 0xAA) (get_or fifteen i 0 ∷ drop (suc i) fifteen) (from_start (drop (suc i) fifteen))
-      (ne_eqb (get_or fifteen i 0) 0xAA m)
-      ∙ ap (λ (j : ℕ). from_start (drop j fifteen)) next
+  pub from_none : position start bs ≡ None → [] ≡ from_start bs
+  from_none e = go (ltb (position_or_len start bs) (length bs)) refl e
+    where
+      go : (t : Bool) → ltb (position_or_len start bs) (length bs) ≡ t → ◌≡◌ {A = Option ℕ} (cond t (Some (position_or_len start bs)) None) None
+          → [] ≡ from_start bs
+      go true l h = cc
+      go false l h =
+          sym (from_first bs ∙ drop_of_length-le bs {i = position_or_len start bs} (ltb-false (position_or_len start bs) (length bs) l))
 
-  pub finds : (i : ℕ) → i < 15 → get_or fifteen i 0 ≡ 0xAA → from_start (drop i fifteen) ≡ drop i fifteen
-  finds i h e =
-      let at = drop-cons fifteen i 0 (omega arith) in
-      ap from_start at
-      ∙ cond_true (eqb (get_or fifteen i 0) 0xAA) (get_or fifteen i 0 ∷ drop (suc i) fifteen) (from_start (drop (suc i) fifteen))
-      (eq-eqb (get_or fifteen i 0) 0xAA e)
-      ∙ sym at
+-- a byte behind bytes that are held, or an 0xAA, is held with them
+pub held_behind : (xs : List ℕ) (b : ℕ) → (length xs ≡ 0 → ⊥) ⊎ (b ≡ 0xAA) → held_with xs b ≡ xs ++ (b ∷ [])
+held_behind [] b (inl m) = absurd (m refl)
+held_behind [] b (inr e) = rw (eq-eqb b 0xAA e) refl
+held_behind (x ∷ xs) b o = refl

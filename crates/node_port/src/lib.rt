@@ -1,21 +1,22 @@
-// The UART port, for a byte and for a piece: whether it is open, an answer with no reply, and what stays held of a bad frame.
+// The UART port, for a byte and for a piece: whether it listens, a refusal, the frame in fifteen bytes, and what stays held of a bad one.
 #![tactic(auto)]
 
-ghost use Rattle.std.specs.Prelude.{◌≡◌, ◌≤◌, drop};
+ghost use Rattle.std.specs.Prelude.{◌≡◌, ◌≤◌, ◌==◌, length, position};
+ghost use Rattle.memory_address.specs.Places.{full};
 ghost use Rattle.node_rules.specs.declared.Noise.TheVariants.{KeepFromNext};
 ghost use Rattle.node_rules.specs.Record.{receiving};
 ghost use Rattle.node_rules.specs.Uart.{silent_on_uart, is_closed, kept_by, held_after_bad};
+ghost use Rattle.node_rules.specs.InNumbers.{refusal_number, uart_in_numbers};
+ghost use Rattle.node_port.specs.Internal.Port.{listens, judged};
 
-use node_rules::{Choices, Node, Noise, Pin, Receiver, UartAnswer};
+use node_rules::{Answer, Choices, Node, Noise, Pin, Receiver, Refusal};
 
-// No reply.
-pub fn silent(number: u8, n: Node) -> UartAnswer
-    ensures { result ≡ silent_on_uart number n }
+// A refusal: no reply.
+pub fn silent(refusal: Refusal, n: Node) -> Answer<30>
+    ensures { uart_in_numbers result ≡ silent_on_uart (refusal_number refusal) n }
 {
-    UartAnswer {
-        number,
-        count: 0,
-        replies: [0; 30],
+    Answer {
+        outcome: Err(refusal),
         node: n,
     }
 }
@@ -24,48 +25,74 @@ pub fn silent(number: u8, n: Node) -> UartAnswer
 pub fn is_closed(p: Pin) -> bool
     ensures { result ≡ is_closed p }
 {
-    match p {
-        Pin::CanOnly => true,
-        Pin::CanAndUart => false,
+    matches!(p, Pin::CanOnly)
+}
+
+// 1, 2 and 3 in this order: whether a byte or a piece is listened to.
+pub fn listens(n: Node, flash: &[u8], eeprom: &[u8]) -> Result<(), Refusal>
+    ensures { result ≡ listens (full flash.now eeprom.now) n }
+{
+    if !node_frame::full(flash, eeprom) {
+        return Err(Refusal::WrongLength);
+    }
+    if is_closed(n.choices.pin) {
+        return Err(Refusal::ClosedPort);
+    }
+    if node_frame::is_deaf(n.mode) {
+        return Err(Refusal::TakesNoFrame);
+    }
+    Ok(())
+}
+
+// These bytes held.
+fn holding(bytes: &[u8]) -> Receiver
+    requires { length bytes.now ≤ 15 }
+    ensures { result ≡ receiving bytes.now }
+{
+    let mut held = [0u8; 15];
+    held[..bytes.len()].copy_from_slice(bytes);
+    Receiver {
+        held,
+        count: bytes.len(),
     }
 }
 
-// The bytes from `from` on, held: one at least, and not the first.
-fn held_from(fifteen: [u8; 15], from: usize) -> Receiver
-    requires { (1 ≤ from) × (from ≤ 14) }
-    ensures { result ≡ receiving (drop from fifteen) }
+// Where the first 0xAA stands.
+pub fn first_start(bytes: &[u8]) -> Option<usize>
+    ensures { result ≡ position (λ b. b == 0xAA) bytes.now }
 {
-    let count = 15 - from;
-    let mut held = [0u8; 15];
-    let mut i = 0;
-    while i < count {
-        held[i] = fifteen[from + i];
-        i += 1;
-    }
-    Receiver { held, count }
+    bytes.iter().position(|b| *b == 0xAA)
 }
 
 // The first byte is dropped, and what stays held starts at the next 0xAA among the fourteen others; nothing, where there is none.
 fn from_next(fifteen: [u8; 15]) -> Receiver
     ensures { result ≡ receiving (kept_by KeepFromNext fifteen) }
 {
-    let mut i = 1;
-    while i < 15 {
-        if fifteen[i] == 0xAA {
-            return held_from(fifteen, i);
-        }
-        i += 1;
+    let others = &fifteen[1..];
+    match first_start(others) {
+        Some(i) => holding(&others[i..]),
+        None => node_record::none_held(),
     }
-    node_record::none_held()
 }
 
 // What stays held of fifteen bytes with a wrong sum or stop, by the way that was chosen.
+#[tactic(auto, unfolding(node_rules::specs::Uart::held_after_bad))]
 pub fn held_after_bad(c: Choices, fifteen: [u8; 15]) -> Receiver
     ensures { result ≡ receiving (held_after_bad c fifteen) }
 {
-    let way = c.noise;
-    match way {
+    match c.noise {
         Noise::KeepFromNext => from_next(fifteen),
         Noise::DropAll => node_record::none_held(),
+    }
+}
+
+// The frame in fifteen bytes, or what stays held of them where their sum or stop is wrong.
+pub fn judged(c: Choices, fifteen: [u8; 15]) -> Result<[u8; 12], Receiver>
+    ensures { result ≡ judged c fifteen }
+{
+    let mut frame = [0u8; 12];
+    match frame_uart::unwrap(&fifteen, &mut frame) {
+        Ok(()) => Ok(frame),
+        Err(_) => Err(held_after_bad(c, fifteen)),
     }
 }

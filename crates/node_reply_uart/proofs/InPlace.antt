@@ -1,23 +1,34 @@
 -- A reply wrapped into its place. Two rooms of 15 cells lie one behind the other, first zeros. The first reply comes into the first room,
 -- the second into the second, which leaves the first as it was.
 -- Assumes nothing.
-use mathlib.Core.Path.{◌≡◌, ◌∙◌, refl}
+use mathlib.Core.Path.{◌≡◌, ◌∙◌, refl, ap}
 use mathlib.Core.List.{List, ◌++◌, append-nil}
 use Prim.Native.Nat.{ℕ}
 use native.Mathlib.Omega.{arith}
 use lib.ListN.{length, replicate, drop_of_length-le}
 use lib.Seq.{take_at, drop_at}
 use borrow.Rule.Slice.PartMut.{put_mid}
+use Rattle.std.specs.Prelude.{Result, Ok}
+use Rattle.std.specs.Result.{IsOk, is_ok}
 use Rattle.base.specs.Parts.{part, listed}
 use Rattle.base.proofs.Listed.{listed_part}
 use Rattle.frame_rules.specs.Wrapping.{wrapped_of}
-use Rattle.frame_rules.specs.Numbers.{wrap_number, output_after}
+use Rattle.frame_rules.specs.declared.Refusal.{Refusal}
+use Rattle.frame_rules.specs.Numbers.{number_of, wrap_number, output_after}
 use Rattle.frame_rules.proofs.Done.{done_wrap}
+use Rattle.frame_rules.proofs.Numbered.{number_injective}
 
--- what `wrap` leaves of 12 bytes in a room of 15
-pub filled : (f held left : List ℕ) (number : ℕ) → number ≡ wrap_number f (length held)
-    → left ≡ output_after number (wrapped_of f) held → length held ≡ 15 → length f ≡ 12 → left ≡ wrapped_of f
-filled f held left number e q h l = let z : number ≡ 0 = e ∙ done_wrap f (length held) h l in rw z at q
+-- what `wrap` answers of 12 bytes in a room of 15, and leaves there
+module _ (f held left : List ℕ) (r : Result Unit Refusal) (room : length held ≡ 15) (l : length f ≡ 12)
+    (e : number_of r ≡ wrap_number f (length held)) where
+  none : number_of r ≡ 0
+  none = e ∙ done_wrap f (length held) room l
+
+  pub is_done : IsOk r
+  is_done = ap is_ok (number_injective r (Ok tt) none)
+
+  pub filled : left ≡ output_after (number_of r) (wrapped_of f) held → left ≡ wrapped_of f
+  filled q = rw none at q
 
 -- the second room's cells replaced
 put_second : (w v rest : List ℕ) → length w ≡ 15 → length rest ≡ 15 → put_mid 15 15 (w ++ rest) v ≡ w ++ v

@@ -8,26 +8,30 @@ use mathlib.Core.Logic.{◌⊎◌, ⊎_elim, inl, inr}
 use Prim.Native.Nat.{ℕ, ◌+◌, ◌-◌, ◌≤◌, ◌<◌}
 use native.Mathlib.Nat.{suc-ne-zero}
 use native.Mathlib.Omega.{arith}
-use lib.Dec.{eqb}
 use lib.ListN.{length, set, replicate, length-append, length-replicate}
 use lib.Seq.{set_at}
-use borrow.Author.Tests.{eq-eqb, ne_eqb, lt-ltb, le-ltb}
+use borrow.Author.Tests.{ne_eqb, lt-ltb, le-ltb}
 use Rattle.base.proofs.Choice.{cond_true, cond_false}
+use Rattle.std.specs.Prelude.{Ok, Err}
 use Rattle.memory_address.specs.Places.{full}
 use Rattle.frame_rules.specs.Wrapping.{inner_of, rightly_wrapped}
-use Rattle.frame_rules.specs.Numbers.{unwrap_number, output_after}
 use Rattle.node_rules.specs.declared.Pin.{Pin}
 use Rattle.node_rules.specs.declared.Pin.TheVariants.{CanOnly, CanAndUart}
 use Rattle.node_rules.specs.declared.Receiver.{Receiver}
 use Rattle.node_rules.specs.declared.Node.{Node}
-use Rattle.node_rules.specs.Numbered.{Answer, UartAnswer}
+use Rattle.node_rules.specs.declared.Refusal.{Refusal}
+use Rattle.node_rules.specs.declared.Refusal.TheVariants.{WrongLength, ClosedPort, TakesNoFrame}
+use Rattle.node_rules.specs.InNumbers.{refusal_number}
 use Rattle.node_rules.specs.Record.{padded, receiving, holding, held_of, tidied, Holdable}
 use Rattle.node_rules.specs.Outcomes.{is_deaf}
-use Rattle.node_rules.specs.Step.{after, done, can_step}
-use Rattle.node_rules.specs.Uart.{UartStep, uart_after, held_with, incomplete, is_closed, held_after_bad, on_uart, via_uart, uart_step, silent_on_uart, silent}
+use Rattle.node_rules.specs.Step.{done, can_step}
+use Rattle.node_rules.specs.Uart.{UartStep, uart_after, held_with, incomplete, is_closed, held_after_bad, via_uart, uart_step, silent_on_uart, silent}
 use Rattle.node_rules.proofs.Tidying.{held_holdable, holdable_few, room_behind, still_held, tidied_mode}
 use Rattle.node_rules.proofs.Agreement.{with_byte_lem, byte_tidied}
 use Rattle.node_record.proofs.Tidied.{with_receiver}
+use Rattle.node_port.specs.Internal.Port.{listens, judged as judged_by}
+use Rattle.node_port.proofs.Keeping.{held_behind}
+use Rattle.node_port.proofs.Judging.{judged_right, judged_wrong}
 
 pub open_pin : (p : Pin) → is_closed p ≡ false → p ≡ CanAndUart
 open_pin CanOnly e = absurd (false≢true (sym e))
@@ -35,25 +39,27 @@ open_pin CanAndUart e = refl
 
 -- ---- 1, 2 and 3
 
-module _ (n t : Node) (b : ℕ) (flash eeprom : List ℕ) (e : t ≡ tidied n) where
-  pub not_full : full flash eeprom ≡ false → uart_after (silent_on_uart 1 t) flash eeprom ≡ uart_step n b flash eeprom
-  unfolding uart_step done
-  not_full f = rw (e, f) (ap (λ (x : Node). silent 1 x flash eeprom) (sym (still_held n)))
+pub refused : (n t : Node) (b : ℕ) (flash eeprom : List ℕ) (refusal : Refusal) → t ≡ tidied n → listens (full flash eeprom) t ≡ Err refusal
+    → uart_after (silent_on_uart (refusal_number refusal) t) flash eeprom ≡ uart_step n b flash eeprom
+unfolding uart_step done
+refused n t b flash eeprom refusal e l =
+    go (full flash eeprom) refl (is_closed (tidied n).choices.pin) refl (is_deaf (tidied n).mode) refl
+  where
+    heard : listens (full flash eeprom) (tidied n) ≡ Err refusal
+    heard = rw e at l
 
-  pub closed : full flash eeprom ≡ true → is_closed t.choices.pin ≡ true
-      → uart_after (silent_on_uart 2 t) flash eeprom ≡ uart_step n b flash eeprom
-  unfolding uart_step done
-  closed f c =
-      let d : is_closed (tidied n).choices.pin ≡ true = rw e at c in
-      rw (e, f, d) (ap (λ (x : Node). silent 2 x flash eeprom) (sym (still_held n)))
+    here : (number : ℕ) → number ≡ refusal_number refusal → silent number (holding (tidied n) (held_of (tidied n))) flash eeprom ≡ uart_step n b flash eeprom
+        → uart_after (silent_on_uart (refusal_number refusal) t) flash eeprom ≡ uart_step n b flash eeprom
+    here number q h =
+        ap (λ (x : Node). silent (refusal_number refusal) x flash eeprom) (e ∙ sym (still_held n))
+        ∙ ap (λ (k : ℕ). silent k (holding (tidied n) (held_of (tidied n))) flash eeprom) (sym q) ∙ h
 
-  pub deaf : full flash eeprom ≡ true → is_closed t.choices.pin ≡ false → is_deaf t.mode ≡ true
-      → uart_after (silent_on_uart 3 t) flash eeprom ≡ uart_step n b flash eeprom
-  unfolding uart_step done
-  deaf f c h =
-      let d : is_closed (tidied n).choices.pin ≡ false = rw e at c in
-      let g : is_deaf (tidied n).mode ≡ true = rw e at h in
-      rw (e, f, d, g) (ap (λ (x : Node). silent 3 x flash eeprom) (sym (still_held n)))
+    go : (x : Bool) → full flash eeprom ≡ x → (y : Bool) → is_closed (tidied n).choices.pin ≡ y → (z : Bool) → is_deaf (tidied n).mode ≡ z
+        → uart_after (silent_on_uart (refusal_number refusal) t) flash eeprom ≡ uart_step n b flash eeprom
+    go false f y c z d = let q : Err WrongLength ≡ Err refusal = rw f at heard in here 1 (let r : WrongLength ≡ refusal = cc in ap refusal_number r) (rw f refl)
+    go true f true c z d = let q : Err ClosedPort ≡ Err refusal = rw (f, c) at heard in here 2 (let r : ClosedPort ≡ refusal = cc in ap refusal_number r) (rw (f, c) refl)
+    go true f false c true d = let q : Err TakesNoFrame ≡ Err refusal = rw (f, c, d) at heard in here 3 (let r : TakesNoFrame ≡ refusal = cc in ap refusal_number r) (rw (f, c, d) refl)
+    go true f false c false d = let q : Ok tt ≡ Err refusal = rw (f, c, d) at heard in cc
 
 -- ---- the room for held bytes has fifteen
 pub room_of : (n t : Node) → t ≡ tidied n → length t.receiver.held ≡ 15
@@ -73,22 +79,9 @@ judged t ys flash eeprom =
     (cond (rightly_wrapped ys) (via_uart (can_step (holding t []) (inner_of ys) flash eeprom))
     (silent 11 (holding t (held_after_bad t.choices ys)) flash eeprom))
 
-pub held_behind : (xs : List ℕ) (b : ℕ) → (length xs ≡ 0 → ⊥) ⊎ (b ≡ 0xAA) → held_with xs b ≡ xs ++ (b ∷ [])
-held_behind [] b (inl m) = absurd (m refl)
-held_behind [] b (inr e) = rw (eq-eqb b 0xAA e) refl
-held_behind (x ∷ xs) b o = refl
-
 no_bytes : (xs : List ℕ) → length xs ≡ 0 → xs ≡ []
 no_bytes [] e = refl
 no_bytes (x ∷ xs) e = absurd (suc-ne-zero (length xs) e)
-
-unwrap_right : (w : List ℕ) → length w ≡ 15 → eqb (unwrap_number w 12) 0 ≡ rightly_wrapped w
-unfolding unwrap_number
-unwrap_right w l = go (rightly_wrapped w) refl
-  where
-    go : (r : Bool) → rightly_wrapped w ≡ r → eqb (unwrap_number w 12) 0 ≡ r
-    go true e = simp (eq-eqb (length w) 15 l, e)
-    go false e = simp (eq-eqb (length w) 15 l, e)
 
 module _ (n t : Node) (b : ℕ) (flash eeprom : List ℕ) (e : t ≡ tidied n) (isFull : full flash eeprom ≡ true)
     (opened : is_closed t.choices.pin ≡ false) (hears : is_deaf t.mode ≡ false) where
@@ -176,30 +169,20 @@ module _ (n t : Node) (b : ℕ) (flash eeprom : List ℕ) (e : t ≡ tidied n) (
         (held_after_bad t.choices w)) flash eeprom))
         (sym whole_is)
 
-    right_is : (number : ℕ) → number ≡ unwrap_number (set t.receiver.held 14 b) 12
-        → eqb number 0 ≡ rightly_wrapped (set t.receiver.held 14 b)
-    right_is number u =
-        ap (λ (k : ℕ). eqb k 0) u ∙ unwrap_right (set t.receiver.held 14 b) (ap length whole_is ∙ whole_length)
-
     -- 11
-    pub bad : (number : ℕ) (r : Receiver) → number ≡ unwrap_number (set t.receiver.held 14 b) 12 → (number ≡ 0 → ⊥)
-        → r ≡ receiving (held_after_bad t.choices (set t.receiver.held 14 b))
+    pub bad : (r : Receiver) → judged_by t.choices (set t.receiver.held 14 b) ≡ Err r
         → uart_after (silent_on_uart 11 (with_receiver t r)) flash eeprom ≡ uart_step n b flash eeprom
-    bad number r u m h =
-        ap (λ (x : Receiver). silent 11 (with_receiver t x) flash eeprom) h
-        ∙ sym (whole_judged ∙ cond_false (rightly_wrapped (set t.receiver.held 14 b)) _ _ (sym (right_is number u) ∙ ne_eqb number 0 m))
+    bad r j =
+        let w = judged_wrong t.choices (set t.receiver.held 14 b) r j in
+        ap (λ (x : Receiver). silent 11 (with_receiver t x) flash eeprom) w.1
+        ∙ sym (whole_judged ∙ cond_false (rightly_wrapped (set t.receiver.held 14 b)) _ _ w.0)
 
     -- a complete frame
-    pub whole : (number : ℕ) (frame flash' eeprom' : List ℕ) (a : Answer) (none : Receiver) (o : UartAnswer)
-        → number ≡ unwrap_number (set t.receiver.held 14 b) 12 → number ≡ 0
-        → frame ≡ output_after number (inner_of (set t.receiver.held 14 b)) (replicate 12 0) → none ≡ receiving []
-        → after a flash' eeprom' ≡ can_step (with_receiver t none) frame flash eeprom → o ≡ on_uart a
-        → uart_after o flash' eeprom' ≡ uart_step n b flash eeprom
-    whole number frame flash' eeprom' a none o u z f k s g =
-        let w = set t.receiver.held 14 b in
-        let i : frame ≡ inner_of w = f ∙ rw (eq-eqb number 0 z) refl in
-        ap (λ (x : UartAnswer). uart_after x flash' eeprom') g
-        ∙ ap via_uart
-        (s ∙ ap (λ (x : Receiver). can_step (with_receiver t x) frame flash eeprom) k
-        ∙ ap (λ (x : List ℕ). can_step (holding t []) x flash eeprom) i)
-        ∙ sym (whole_judged ∙ cond_true (rightly_wrapped w) _ _ (sym (right_is number u) ∙ eq-eqb number 0 z))
+    pub whole : (frame : List ℕ) (none : Receiver) (s : UartStep) → judged_by t.choices (set t.receiver.held 14 b) ≡ Ok frame → none ≡ receiving []
+        → s ≡ via_uart (can_step (with_receiver t none) frame flash eeprom) → s ≡ uart_step n b flash eeprom
+    whole frame none s j k e =
+        let w = judged_right t.choices (set t.receiver.held 14 b) frame j in
+        e
+        ∙ ap (λ (x : Receiver). via_uart (can_step (with_receiver t x) frame flash eeprom)) k
+        ∙ ap (λ (x : List ℕ). via_uart (can_step (holding t []) x flash eeprom)) w.1
+        ∙ sym (whole_judged ∙ cond_true (rightly_wrapped (set t.receiver.held 14 b)) _ _ w.0)

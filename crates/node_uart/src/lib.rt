@@ -1,69 +1,56 @@
-// A UART byte. The call takes any record, which it tidies, and lent memories of any length; it asks nothing of its caller. The answer has
-// the number of document 01, the replies, wrapped, and the node.
+// A UART byte, and a complete frame from UART. The calls take any record and lent memories of any length; they ask nothing of their caller.
+// The answer has the replies, wrapped, or the refusal, and the node.
 #![tactic(auto)]
 
 ghost use Rattle.std.specs.Prelude.{◌≡◌};
-ghost use Rattle.node_rules.specs.Uart.{uart_after, uart_step};
+ghost use Rattle.node_rules.specs.Step.{can_step};
+ghost use Rattle.node_rules.specs.Uart.{uart_after, via_uart, uart_step};
+ghost use Rattle.node_rules.specs.InNumbers.{uart_in_numbers};
 
-use node_rules::{Mode, Node, Staged, UartAnswer};
+use node_rules::{Answer, Node, Refusal};
+
+// A complete frame goes the way of a CAN frame, its replies wrapped. A refusal leaves what that of a CAN frame leaves.
+pub fn obeyed(node: Node, frame: &[u8], flash: &mut [u8], eeprom: &mut [u8]) -> Answer<30>
+    ensures { uart_after (uart_in_numbers result) flash.new eeprom.new
+        ≡ via_uart (can_step node frame.now flash.old eeprom.old) }
+{
+    let a = node_can::can_frame(node, frame, flash, eeprom);
+    Answer {
+        outcome: a.outcome.map(node_reply_uart::wrapped_replies),
+        node: a.node,
+    }
+}
 
 // A byte from UART: 1, 2, 3 and 10 in this order, and then the last byte of a frame, which goes the way of a CAN frame where its sum and
-// stop are right.
-pub fn uart_byte(node: Node, byte: u8, flash: &mut [u8], eeprom: &mut [u8]) -> UartAnswer
-    ensures { uart_after result flash.new eeprom.new
+// stop are right. 1, 2 and 3 leave the record tidied, 10 holds or skips the byte, and 11 leaves what the chosen way says; both memories stay.
+pub fn uart_byte(node: Node, byte: u8, flash: &mut [u8], eeprom: &mut [u8]) -> Answer<30>
+    ensures { uart_after (uart_in_numbers result) flash.new eeprom.new
         ≡ uart_step node byte flash.old eeprom.old }
 {
-    let mut n = node;
-    let receiver = node_record::tidy_receiver(n.receiver);
-    n.receiver = receiver;
-    let was = n.mode;
-    if !node_record::is_tidy(was) {
-        n = node_record::with_mode(n, Mode::Programming(Staged::Nothing));
+    let mut n = node_record::tidy(node);
+    if let Err(refusal) = node_port::listens(n, flash, eeprom) {
+        return node_port::silent(refusal, n);
     }
-    if !node_frame::full(flash, eeprom) {
-        return node_port::silent(1, n);
-    }
-    let choices = n.choices;
-    let pin = choices.pin;
-    if node_port::is_closed(pin) {
-        return node_port::silent(2, n);
-    }
-    let mode = n.mode;
-    if node_frame::is_deaf(mode) {
-        return node_port::silent(3, n);
-    }
-    let count = n.receiver.count;
-    if count == 0 {
-        if byte != 0xAA {
-            return node_port::silent(10, n);
-        }
+    let mut r = n.receiver;
+    let count = r.count;
+    if count == 0 && byte != 0xAA {
+        return node_port::silent(Refusal::Incomplete, n);
     }
     if count < 14 {
-        let mut r = n.receiver;
         r.held[count] = byte;
         r.count = count + 1;
         n.receiver = r;
-        return node_port::silent(10, n);
+        return node_port::silent(Refusal::Incomplete, n);
     }
-    let mut whole = n.receiver.held;
-    whole[14] = byte;
-    let mut frame = [0u8; 12];
-    let number = frame_uart::unwrap(&whole, &mut frame);
-    if number != 0 {
-        let r = node_port::held_after_bad(choices, whole);
-        n.receiver = r;
-        return node_port::silent(11, n);
-    }
-    let none = node_record::none_held();
-    n.receiver = none;
-    let a = node_can::can_frame(n, &frame, flash, eeprom);
-    let replies = a.replies;
-    let wrapped = node_reply_uart::wrapped_replies(a.count, replies);
-    let then = a.node;
-    UartAnswer {
-        number: a.number,
-        count: a.count,
-        replies: wrapped,
-        node: then,
+    r.held[14] = byte;
+    match node_port::judged(n.choices, r.held) {
+        Ok(frame) => {
+            n.receiver = node_record::none_held();
+            obeyed(n, &frame, flash, eeprom)
+        }
+        Err(kept) => {
+            n.receiver = kept;
+            node_port::silent(Refusal::BadFrame, n)
+        }
     }
 }

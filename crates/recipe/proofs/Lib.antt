@@ -9,4 +9,5 @@ pub mod Framing
 pub mod Refusals
 pub mod Plainly
 pub mod Agreeing
+pub mod Naming
 pub mod Tight

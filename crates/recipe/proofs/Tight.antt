@@ -12,6 +12,9 @@ use borrow.Fn.Kinds.{ended_of}
 use Rattle.recipe.specs.contracts.Fault.number.{signature as number-signature}
 use Rattle.recipe.proofs.Fault.number.Kinds as number-kinds
 use Rattle.recipe.proofs.Fault.number.Reads as number-reads
+use Rattle.recipe.specs.contracts.Kind.of.{signature as of-signature}
+use Rattle.recipe.proofs.Kind.of.Kinds as of-kinds
+use Rattle.recipe.proofs.Kind.of.Reads as of-reads
 use Rattle.recipe.specs.declared.Fault.{Fault}
 use Rattle.recipe.specs.declared.Fault.TheVariants.{NoLeave, UnknownKind, CutShort, OutOfPlace, IllegalAddress, TooManyItems, ShortOutput}
 use Rattle.recipe.specs.declared.Refusal.{Refusal}
@@ -71,3 +74,8 @@ pub number_tight : (κs : Lfts 0) (a : ArgsD number-signature κs) (r r' : ResD 
     (s s' : AtExit (ended_of 0 number-kinds.ps number-kinds.r) κs)
     → number-reads.Post κs a r s → number-reads.Post κs a r' s' → r ≡ r'
 number_tight κs a r r' s s' p q = p ∙ sym q
+
+pub of_tight : (κs : Lfts 0) (a : ArgsD of-signature κs) (r r' : ResD of-signature κs)
+    (s s' : AtExit (ended_of 0 of-kinds.ps of-kinds.r) κs)
+    → of-reads.Post κs a r s → of-reads.Post κs a r' s' → r ≡ r'
+of_tight κs a r r' s s' p q = p ∙ sym q

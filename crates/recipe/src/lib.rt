@@ -3,6 +3,7 @@
 #![tactic(auto)]
 
 ghost use Rattle.std.specs.Prelude.{◌≡◌};
+ghost use Rattle.recipe.specs.Kinds.{kind_named};
 ghost use Rattle.recipe.specs.Translation.{fault_number};
 
 use memory_address::{Group, Module};
@@ -12,6 +13,30 @@ use memory_address::{Group, Module};
 pub struct Numbers {
     pub module: Module,
     pub group: Group,
+}
+
+// The kinds of item.
+#[derive(Clone, Copy, PartialEq, Eq)]
+pub enum Kind {
+    Open,
+    Block,
+    Row,
+    Leave,
+}
+
+impl Kind {
+    // The kind that a byte names, where it names one.
+    pub fn of(byte: u8) -> Option<Kind>
+        ensures { result ≡ kind_named byte }
+    {
+        match byte {
+            0x01 => Some(Kind::Open),
+            0x02 => Some(Kind::Block),
+            0x03 => Some(Kind::Row),
+            0x0F => Some(Kind::Leave),
+            _ => None,
+        }
+    }
 }
 
 // Why a recipe is refused.

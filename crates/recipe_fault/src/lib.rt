@@ -8,17 +8,17 @@ ghost use Rattle.std.specs.Prelude.{◌≡◌, ◌+◌, ◌≤◌, drop};
 ghost use Rattle.recipe.specs.Faults.{body_length, fault_at};
 ghost use Rattle.recipe.specs.Translation.{found_number};
 
-use recipe::Fault;
+use recipe::{Fault, Kind};
 
 // How many bytes an item of a kind takes: its kind and its body.
 pub fn size_of_kind(kind: u8) -> usize
     ensures { (result ≡ 1 + body_length kind) × (1 ≤ result) × (result ≤ 68) }
 {
-    match kind {
-        0x01 => 3,
-        0x02 => 68,
-        0x03 => 12,
-        _ => 1,
+    match Kind::of(kind) {
+        Some(Kind::Open) => 3,
+        Some(Kind::Block) => 68,
+        Some(Kind::Row) => 12,
+        Some(Kind::Leave) | None => 1,
     }
 }
 
@@ -32,14 +32,14 @@ pub fn fault_at(input: &[u8], place: usize, number: usize, ended: bool) -> Resul
     if input.len() <= place {
         return Err(Fault::UnknownKind);
     }
-    let kind = input[place];
-    if !kind::is_known(kind) {
+    let byte = input[place];
+    let Some(kind) = Kind::of(byte) else {
         return Err(Fault::UnknownKind);
-    }
+    };
     if kind::out_of_place(kind, number, ended) {
         return Err(Fault::OutOfPlace);
     }
-    if input.len() - place < size_of_kind(kind) {
+    if input.len() - place < size_of_kind(byte) {
         return Err(Fault::CutShort);
     }
     if kind::is_illegal(kind, recipe_address::address_of(input, place)) {

@@ -8,7 +8,7 @@ ghost use Rattle.std.specs.Prelude.{◌&&◌, ◌≡◌, ◌+◌, leb, drop};
 ghost use Rattle.recipe_item.specs.Internal.Emitted.{item_put};
 
 use memory_address::{EepromPlace, FlashAddress};
-use recipe::Numbers;
+use recipe::{Kind, Numbers};
 
 // Whether as many bytes as `count`, from a byte on, lie within a size.
 fn within(size: usize, from: usize, count: usize) -> bool
@@ -36,8 +36,8 @@ fn whole_with_room(
 pub fn put_item(input: &[u8], place: usize, output: &mut [u8], at: usize, numbers: Numbers)
     ensures { output.new ≡ item_put numbers.module.0 numbers.group.0 (drop place input.now) output.old at }
 {
-    match base::byte_at(input, place) {
-        0x02 => {
+    match Kind::of(base::byte_at(input, place)) {
+        Some(Kind::Block) => {
             if whole_with_room(input.len(), place, 68, output.len(), at, 216) {
                 put::put_block(
                     input,
@@ -49,7 +49,7 @@ pub fn put_item(input: &[u8], place: usize, output: &mut [u8], at: usize, number
                 );
             }
         }
-        0x03 => {
+        Some(Kind::Row) => {
             if whole_with_room(input.len(), place, 12, output.len(), at, 24) {
                 put::put_row(
                     input,
@@ -61,11 +61,12 @@ pub fn put_item(input: &[u8], place: usize, output: &mut [u8], at: usize, number
                 );
             }
         }
-        0x0F => {
+        Some(Kind::Leave) => {
             if whole_with_room(input.len(), place, 1, output.len(), at, 12) {
                 put::put(output, at, frame::leave_frame(numbers));
             }
         }
-        _ => {}
+        Some(Kind::Open) => {}
+        None => {}
     }
 }

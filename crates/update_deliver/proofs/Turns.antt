@@ -3,14 +3,19 @@
 -- Assumes nothing.
 use mathlib.Core.Path.{◌≡◌, ◌∙◌, refl, sym, ap, ap₂}
 use mathlib.Core.List.{List, [], ◌∷◌, ◌++◌, append_assoc, append-nil}
-use Prim.Native.Nat.{ℕ, zero, suc, ◌+◌, ◌-◌, ◌*◌, ◌≤◌, ◌<◌}
+use Prim.Native.Nat.{ℕ, suc, ◌+◌, ◌-◌, ◌*◌, ◌<◌}
 use native.Mathlib.Omega.{arith}
 use native.Mathlib.Nat.{sub-zero}
-use lib.ListN.{length, drop, length-append, length-drop}
+use lib.ListN.{length, drop, length-append}
 use lib.Seq.{take_at, drop-append-add, drop-drop}
 use Rattle.base.specs.Parts.{part, patch}
 use Rattle.node_rules.specs.declared.Node.{Node}
+use Rattle.std.specs.Prelude.{Result, Ok, Err}
+use Rattle.node_rules.specs.declared.Refusal.{Refusal}
+use Rattle.node_rules.specs.declared.Replies.{Replies}
+use Rattle.node_rules.specs.declared.Answer.{Answer as Handed}
 use Rattle.node_rules.specs.Numbered.{Answer}
+use Rattle.node_rules.specs.InNumbers.{answer_in_numbers, outcome_in_numbers}
 use Rattle.node_rules.specs.Step.{Step, after, can_step}
 use Rattle.node_rules.specs.Runs.{state}
 use Rattle.recipe.specs.Frames.{joined}
@@ -28,6 +33,14 @@ put_behind w o t to e l =
     ap₂ (λ (x y : List ℕ). x ++ (t ++ y)) (take_at w (drop to o) to e)
     (ap (λ (k : ℕ). drop k (w ++ drop to o)) far ∙ drop-append-add w (drop to o) 14 ∙ drop-drop 14 to o)
     ∙ sym (append_assoc w t (drop (to + 14) o))
+
+-- the node of an answer, and of what is told of it in numbers
+pub node_told : (a : Handed 24) → (answer_in_numbers a).node ≡ a.node
+node_told a = go a.outcome a.node
+  where
+    go : (o : Result (Replies 24) Refusal) (n : Node) → (outcome_in_numbers o n).node ≡ n
+    go (Ok r) n = refl
+    go (Err r) n = refl
 
 module _ (frames : List ℕ) (count : ℕ) (flash₀ eeprom₀ answers₀ : List ℕ) (n₀ : Node) where
   -- after i turns: the other frames are still to be handed over

@@ -1,15 +1,9 @@
--- `memory_cells::write_flash_cells` meets its contract: after i turns the first i cells are combined and the rest as they were.
+-- `memory_leaves::write_flash_cells` meets its contract: after i turns the first i cells are combined and the rest as they were.
 -- Assumes nothing.
 use mathlib.Core.Path.{◌≡◌}
-use Prim.Native.Nat.{◌≤◌, ◌-◌}
-use lib.ListN.{length}
 use Rattle.base.proofs.Stored.{mix}
 use Rattle.memory_leaves.specs.Leaves.{combined}
 use Rattle.memory_leaves.proofs.write_flash_cells.Given as goal
 
 abbrev pub invariant-loop-i : goal.invariant-loop-i
-invariant-loop-i l =
-    (l.i ≤ 8) × (length l.initial.cells ≡ 8) × (length l.cells ≡ 8) × (length l.new ≡ 8) × (l.cells ≡ mix (combined l.initial.cells l.new) l.initial.cells l.i)
-
-abbrev pub decreases-loop-i : goal.decreases-loop-i
-decreases-loop-i l = 8 - l.i
+invariant-loop-i l = l.cells ≡ mix (combined l.initial.cells l.new) l.initial.cells l.i

@@ -6,6 +6,3 @@ use Rattle.memory_same.proofs.same.Goals as goal
 
 pub returns-then-x-y : goal.returns-then-x-y
 returns-then-x-y c = sym (other_length_lem c.args.x.now c.args.y.now c.if-x-y.true)
-
-pub all_same-requires : goal.all_same-requires
-all_same-requires c = c.if-x-y.false

@@ -1,58 +1,76 @@
--- `memory_sum::sum_of` meets its contract: before each turn the sum and the cells still to be added come to the whole, so that after the
--- remainder the sum is the whole.
+-- `memory_sum::sum_of` meets its contract: before each turn the sum and the cells still to be added come to the whole, and these are the
+-- last of the list, so that after the last turn they are the remainder.
 -- Assumes nothing.
-use mathlib.Core.Path.{◌≡◌, ◌∙◌, ap}
-use mathlib.Core.List.{List, [], ◌∷◌}
-use Prim.Native.Nat.{ℕ, zero, suc, ◌≤◌, ◌+◌, ◌-◌}
-use lib.ListN.{length, take, drop, drop_of_length-le}
-use lib.Seq.{drop-drop}
-use Rattle.base.specs.Parts.{part, sum_of}
-use native.Mathlib.Nat.{le_refl}
+use mathlib.Core.Path.{◌≡◌, ◌∙◌, ap, sym, refl}
+use mathlib.Core.List.{List, [], ◌∷◌, ◌++◌}
+use Prim.Native.Nat.{ℕ, ◌≤◌, ◌+◌, ◌-◌, ◌<◌, ◌%◌}
+use lib.ListN.{length, drop, length-append}
+use lib.Seq.{drop-drop, drop-append_seam}
+use Rattle.base.specs.Parts.{sum_of}
 use native.Mathlib.Omega.{arith}
-use Rattle.base.proofs.Patched.{part_length}
 use Rattle.memory_sum.proofs.sum_of.Goals as goal
 
--- a sum is that of the first k numbers and that of the others
-sum-cut : (k : ℕ) (m : List ℕ) → sum_of m ≡ sum_of (take k m) + sum_of (drop k m)
-sum-cut zero m = omega arith
-sum-cut (suc k) [] = omega arith
-sum-cut (suc k) (x ∷ m) = omega (arith, sum-cut k m)
+-- a sum is that of the first numbers and that of the others
+sum-append : (xs ys : List ℕ) → sum_of (xs ++ ys) ≡ sum_of xs + sum_of ys
+sum-append [] ys = omega arith
+sum-append (x ∷ xs) ys = omega (arith, sum-append xs ys)
 
--- the cells from i up to past are added: those behind are still to be
-cells-added : (s : List ℕ) (i past sum r : ℕ) → i ≤ past → sum + sum_of (drop i s) ≡ sum_of s → r ≡ sum + sum_of (part s i (past - i))
-    → r + sum_of (drop past s) ≡ sum_of s
-cells-added s i past sum r h whole e =
-    let there : i + (past - i) ≡ past = omega arith in
-    omega (arith, whole, e, sum-cut (past - i) (drop i s), ap sum_of (drop-drop (past - i) i s ∙ ap (λ (k : ℕ). drop k s) there))
+-- what is left of the last numbers behind the first of them are the last numbers
+last-left : (s rest eight left : List ℕ) → rest ≡ drop (length s - length rest) s → rest ≡ eight ++ left → length rest ≤ length s
+    → left ≡ drop (length s - length left) s
+last-left s rest eight left e a l =
+    let n : length rest ≡ length eight + length left = ap length a ∙ length-append eight left in
+    let k : (length s - length rest) + length eight ≡ length s - length left = omega arith in
+    sym (drop-append_seam eight left)
+    ∙ ap (λ (xs : List ℕ). drop (length eight) xs) (sym a ∙ e)
+    ∙ drop-drop (length eight) (length s - length rest) s
+    ∙ ap (λ (i : ℕ). drop i s) k
 
-pub loop-i-init : goal.loop-i-init
-loop-i-init c = (omega arith, omega arith, omega arith)
+pub loop-eight-init : goal.loop-eight-init
+loop-eight-init c =
+    let s = c.args.s.now in
+    let eights = c.chunks_exact-eights.ensures in
+    let none : 0 ≡ length s - length s = omega arith in
+    rw (c.into_iter-eight-iterator.ensures.into_iter_gives, eights.rest)
+    (eights.size, omega arith, refl, ap (λ (i : ℕ). drop i s) none, omega arith, omega arith)
 
 pub added_singly-sum-requires : goal.added_singly-sum-requires
 added_singly-sum-requires c =
-    let at = c.loop-i in
-    omega (arith, part_length c.args.s.now at.i (at.i + 8 - at.i) (omega arith))
+    let cut = c.in-Some.ensures.steps.1 in
+    omega (arith, c.loop-eight.invariant.5, ap length cut.0, length-append c.in-Some.eight.now c.next.new.self.rest.now)
 
-pub loop-i-preserved : goal.loop-i-preserved
-loop-i-preserved c =
-    let at = c.loop-i in
-    let s = c.args.s.now in (
+pub loop-eight-preserved : goal.loop-eight-preserved
+loop-eight-preserved c =
+    let s = c.args.s.now in
+    let at = c.loop-eight.invariant in
+    let eight = c.in-Some.eight.now in
+    let left = c.next.new.self.rest.now in
+    let steps = c.in-Some.ensures.steps in
+    let cut = steps.1 in
+    let size : length eight ≡ 8 = cut.1 ∙ at.0 in
+    let n : length c.loop-eight.eight-iterator.rest.now ≡ length eight + length left = ap length cut.0 ∙ length-append eight left in
+    let added = c.added_singly-sum.ensures in (
+      steps.0 ∙ at.0,
       omega arith,
-      omega (arith, cells-added s at.i _ at.sum _ (omega arith) at.invariant.1 c.added_singly-sum.ensures.0),
-      omega (arith, c.added_singly-sum.ensures.1, part_length s at.i (at.i + 8 - at.i) (omega arith)),
+      omega (arith, at.2),
+      last-left s _ eight left at.3 cut.0 at.1,
+      omega (arith, at.4, added.0, ap sum_of cut.0, sum-append eight left),
+      omega (arith, at.5, added.1),
     )
 
 pub added_singly-requires : goal.added_singly-requires
 added_singly-requires c =
-    let at = c.loop-i in
-    let s = c.args.s.now in
-    omega (arith, part_length s at.i (length s - at.i) (omega arith))
+    let eights = c.chunks_exact-eights.ensures in
+    omega (arith, c.loop-eight.invariant.5, ap length c.remainder-remainder.ensures, eights.remainder_len)
 
 pub returns : goal.returns
 returns c =
-    let at = c.loop-i in
     let s = c.args.s.now in
-    let all = cells-added s at.i _ at.sum _ (omega arith) at.invariant.1 c.added_singly.ensures.0 in (
-      omega (arith, all, ap sum_of (drop_of_length-le s (le_refl _))),
-      omega (arith, c.added_singly.ensures.1, part_length s at.i (length s - at.i) (omega arith)),
-    )
+    let at = c.loop-eight.invariant in
+    let rest = c.loop-eight.eight-iterator.rest.now in
+    let few : length rest < 8 = rw at.0 at c.in-None.ensures.steps.1.0 in
+    let k : length s - length s % 8 ≡ length s - length rest = omega (arith, at.2, few) in
+    let left : c.remainder-remainder.result.now ≡ rest =
+    c.remainder-remainder.ensures ∙ c.chunks_exact-eights.ensures.remainder ∙ ap (λ (i : ℕ). drop i s) k ∙ sym at.3 in
+    let added = c.added_singly.ensures in
+    (omega (arith, added.0, at.4, ap sum_of left), omega (arith, added.1, at.5, ap length left))

@@ -1,25 +1,22 @@
--- `node_gather::at_once` meets its contract: the fifteen bytes are unwrapped where they stand.
+-- `node_gather::at_once` meets its contract: where something is held, or bytes are few, no frame is there.
 -- Assumes nothing.
-use mathlib.Core.Path.{refl}
-use Prim.Native.Nat.{◌+◌, ◌-◌}
+use mathlib.Core.Logic.{inl, inr}
 use native.Mathlib.Omega.{arith}
+use lib.ListN.{drop, length-take, length-drop}
 use Rattle.base.specs.Parts.{part}
-use Rattle.node_gather.proofs.Holding.{at_once_held, at_once_few, at_once_there}
+use Rattle.node_gather.proofs.Holding.{none_at_once}
 use Rattle.node_gather.proofs.at_once.Goals as goal
+use Rattle.node_gather.proofs.at_once.Goals.{then-count-ne0-via-then-count-ne0, then-count-ne0-via-else-count-ne0+then-piece-from-lt15}
 
 pub returns-then-count-ne0 : goal.returns-then-count-ne0
 returns-then-count-ne0 c =
     let a = c.args in
-    (at_once_held a.count (part a.piece.now a.from 15) c.if-count-ne0.true, refl)
-
-pub returns-then-piece-from-lt15 : goal.returns-then-piece-from-lt15
-returns-then-piece-from-lt15 c =
-    let a = c.args in
-    (at_once_few a.count a.from a.piece.now c.if-piece-from-lt15.true, refl)
-
-pub returns : goal.returns
-returns c =
-    let a = c.args in
-    let u = c.unwrap in
-    at_once_there a.count a.from ((a.from + 15) - a.from) u.result a.piece.now a.frame.now _ c.if-count-ne0.false
-    (omega arith) c.requires.1 u.ensures.0 u.ensures.1
+    let there = part a.piece.now a.from 15 in
+    elim c.then-count-ne0.branch [
+      | then-count-ne0-via-then-count-ne0 w ↦ none_at_once a.count there (inl w.if-count-ne0.true)
+      | then-count-ne0-via-else-count-ne0+then-piece-from-lt15 w ↦
+          let n = length-take 15 (drop a.from a.piece.now) in
+          let d = length-drop a.from a.piece.now in
+          let short = w.if-piece-from-lt15.true in
+          none_at_once a.count there (inr (λ e. omega (arith, n, d, short, e)))
+    ]

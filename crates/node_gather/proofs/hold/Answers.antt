@@ -1,58 +1,39 @@
--- `node_gather::hold` meets its contract: each turn holds one byte more.
+-- `node_gather::hold` meets its contract: as many bytes as there is room for, or as there are, come behind those that are held.
 -- Assumes nothing.
-use mathlib.Core.Path.{refl, sym}
-use mathlib.Core.List.{[]}
-use mathlib.Core.Logic.{inl, inr}
-use Prim.Native.Nat.{◌-◌}
+use mathlib.Core.Path.{◌≡◌, ◌∙◌, ap}
+use mathlib.Core.List.{List}
+use Prim.Native.Nat.{ℕ, ◌+◌, ◌-◌}
 use native.Mathlib.Omega.{arith}
-use Rattle.node_rules.specs.Uart.{held_after_bad}
-use Rattle.node_gather.proofs.Holding.{holds_none, holds_one, ends, whole_length, completes}
+use lib.ListN.{length, take, drop, length-drop}
+use lib.Seq.{take_all}
+use borrow.Rule.Slice.PartMut.{put_mid}
+use Rattle.node_gather.proofs.Holding.{ends, completes}
 use Rattle.node_gather.proofs.hold.Goals as goal
 
-pub loop-count-init : goal.loop-count-init
-loop-count-init c =
+pub returns-then-count-lt15 : goal.returns-then-count-lt15
+returns-then-count-lt15 c =
     let a = c.args in
-    holds_none a.receiver a.piece.now a.from c.requires.0 c.requires.1
+    let q = a.receiver in
+    let k = c.min-more.result in
+    let bs = a.piece.now in
+    let rest = take (length bs - a.from) (drop a.from bs) in
+    let room : (q.count + k) - q.count ≡ k = omega arith in
+    ends q bs a.from k rest _ c.requires.0 c.requires.1 c.requires.2 (take_all (length bs - a.from) (drop a.from bs) (omega (arith, length-drop a.from bs)))
+    c.min-more.ensures
+    (ap (λ (w : List ℕ). put_mid q.count ((q.count + k) - q.count) q.held w) c.copy_from_slice.ensures.after
+    ∙ ap (λ (j : ℕ). put_mid q.count j q.held (take k rest)) room)
+    a.c c.if-count-lt15.true
 
-pub returns-then-piece-i : goal.returns-then-piece-i
-returns-then-piece-i c =
+pub returns-else-count-lt15 : goal.returns-else-count-lt15
+returns-else-count-lt15 c =
     let a = c.args in
-    let l = c.loop-count in
-    ends a.receiver a.piece.now a.from l.r l.count l.i l.invariant a.c a.frame.now c.if-piece-i.true
-    c.loop-count-test.true
-
-pub loop-count-preserved : goal.loop-count-preserved
-loop-count-preserved c =
-    let a = c.args in
-    let l = c.loop-count in
-    holds_one a.receiver a.piece.now a.from l.r l.count l.i l.invariant (omega (arith, c.if-piece-i.false))
-    c.loop-count-test.true
-
-pub slice_bounds-unwrap-end : goal.slice_bounds-unwrap-end
-slice_bounds-unwrap-end c =
-    let a = c.args in
-    let l = c.loop-count in
-    sym
-    (whole_length a.receiver a.piece.now a.from l.r l.count l.i l.invariant a.c a.frame.now
-    c.loop-count-test.false)
-
-pub returns-then-number-eq0 : goal.returns-then-number-eq0
-returns-then-number-eq0 c =
-    let a = c.args in
-    let l = c.loop-count in
-    let u = c.unwrap-number in
-    completes a.receiver a.piece.now a.from l.r l.count l.i l.invariant a.c a.frame.now
-    c.loop-count-test.false u.result _ [] c.none_held-none.result
-    c.requires.2 u.ensures.0 u.ensures.1
-    (inl (c.if-number-eq0.true, refl)) c.none_held-none.ensures
-
-pub returns : goal.returns
-returns c =
-    let a = c.args in
-    let l = c.loop-count in
-    let u = c.unwrap-number in
-    completes a.receiver a.piece.now a.from l.r l.count l.i l.invariant a.c a.frame.now
-    c.loop-count-test.false u.result _ (held_after_bad a.c l.r.held)
-    c.held_after_bad-kept.result
-    c.requires.2 u.ensures.0 u.ensures.1
-    (inr (c.if-number-eq0.false, refl)) c.held_after_bad-kept.ensures
+    let q = a.receiver in
+    let k = c.min-more.result in
+    let bs = a.piece.now in
+    let rest = take (length bs - a.from) (drop a.from bs) in
+    let room : (q.count + k) - q.count ≡ k = omega arith in
+    completes q bs a.from k rest _ c.requires.0 c.requires.1 c.requires.2 (take_all (length bs - a.from) (drop a.from bs) (omega (arith, length-drop a.from bs)))
+    c.min-more.ensures
+    (ap (λ (w : List ℕ). put_mid q.count ((q.count + k) - q.count) q.held w) c.copy_from_slice.ensures.after
+    ∙ ap (λ (j : ℕ). put_mid q.count j q.held (take k rest)) room)
+    a.c c.whole-outcome.result c.if-count-lt15.false c.whole-outcome.ensures
