@@ -12,13 +12,11 @@ use contract.Lifetimes.{Lfts}
 use borrow.Fn.World.{ArgsD, ResD}
 use denote.Triple.Clauses.{AtExit}
 use borrow.Fn.Kinds.{ended_of}
-use Rattle.hex_rules.specs.declared.Converted.{Converted}
-use Rattle.hex_rules.specs.declared.Converted.TheVariants.{Made, Refused}
+use Rattle.hex_rules.specs.Refusing.{Converted, Made, Refused, in_numbers}
 use Rattle.hex_rules.specs.Record.{record_of, bad_digit, bad_length, bad_sum, other_type}
 use Rattle.hex_rules.specs.Cells.{Cell, some_outside, some_twice}
-use Rattle.hex_rules.specs.Checks.{Given, Read, gives, refused, cells_of, rules_at, fault_at, with_record, at_the_end, lines_read}
+use Rattle.hex_rules.specs.Checks.{Given, Read, gives, refused, cells_of, rules_at, fault_at, with_record, lines_read}
 use Rattle.hex_rules.specs.Converting.{text_read, bytes_of, answered, converted}
-use Rattle.hex_rules.specs.Recipe.{items_of}
 use Rattle.hex_rules.proofs.Reading.{read_on, read_fault, read_end}
 use Rattle.hex_rules.proofs.MadeLegal.{printed_size, items_size}
 use Rattle.hex_read.specs.contracts.convert.{signature}
@@ -121,6 +119,6 @@ module _ (text : List ℕ) (m g room : ℕ) {answer : Converted} (said : answer 
 
 -- the same of any call of `convert`, over its real contract: what is handed to it, and what it answers
 pub hex_has_room : (κs : Lfts 2) (a : ArgsD signature κs) (r : ResD signature κs) (s : AtExit (ended_of 2 kinds.ps kinds.r) κs)
-    → reads.Post κs a r s → 71172 ≤ length a.1.1.1.0.now
-    → (number line : ℕ) → r ≡ Refused number line → (30 ≤ number) × (number ≤ 35)
-hex_has_room κs a r s p = answer_refused a.0.now _ _ (length a.1.1.1.0.now) p.0
+    → reads.Post κs a r s → 71172 ≤ length a.1.1.0.now
+    → (number line : ℕ) → in_numbers r ≡ Refused number line → (30 ≤ number) × (number ≤ 35)
+hex_has_room κs a r s p = answer_refused a.0.now _ _ (length a.1.1.0.now) p.0

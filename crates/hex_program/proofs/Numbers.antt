@@ -1,62 +1,53 @@
 -- Laws of the numbers that arguments write: what a character stands for, by the tests that are made of it, and digits read one by one.
 -- Assumes nothing.
 use mathlib.Core.Path.{◌≡◌, refl, sym, ap, subst, ◌∙◌}
-use mathlib.Core.Bool.{Bool, true, false, ◌&&◌, ◌||◌, cond}
+use mathlib.Core.Bool.{Bool, true, false, ◌&&◌, ◌||◌, cond, false≢true}
+use lib.Pointwise.{pointwise}
 use mathlib.Core.List.{List, [], ◌∷◌}
-use Prim.Native.Nat.{ℕ, zero, suc, ◌+◌, ◌-◌, ◌*◌, ◌≤◌, ◌<◌}
+use Prim.Native.Nat.{ℕ, zero, suc, ◌+◌, ◌*◌, ◌≤◌, ◌<◌}
 use native.Mathlib.Omega.{arith}
 use native.Mathlib.Numerals.{add-one}
 use native.Mathlib.Nat.{mul-le-mul_right}
 use lib.Dec.{eqb, ltb}
-use lib.ListN.{length, get_or, drop, drop_of_length-le, get_or-eq_default}
+use lib.ListN.{length, get_or, take, drop, drop_of_length-le}
 use lib.Seq.{drop-cons}
-use borrow.Author.Tests.{le-leb, lt-leb, lt-ltb, le-ltb, eq-eqb, ne_eqb}
-use Rattle.base.proofs.Choice.{by_cond, cond_false}
+use mathlib.Core.Logic.{⊎_elim}
+use borrow.Author.Tests.{lt-ltb, le-ltb, eq-eqb, ne_eqb, eqb-true, eqb-false}
+use Rattle.base.proofs.Choice.{by_cond, cond_true, both_true, true_or_false}
 use Rattle.hex_rules.specs.Record.{digit_of}
 use Rattle.hex_program.specs.Internal.Numbers.{digits_read, value_of, number_of}
-use Rattle.hex_program.specs.declared.number.Numeral.{Numeral}
-use Rattle.hex_program.specs.declared.number.Numeral.TheVariants.{Byte, Wrong}
+use Rattle.std.specs.Prelude.{Option, Some, None}
+use Rattle.std.specs.Char.{digit_value}
 
--- each range of characters, and what is between them
-module _ (c : ℕ) where
-  pub below_digits : c < 0x30 → 16 ≡ digit_of c
-  unfolding digit_of
-  below_digits h = sym (simp (lt-leb 0x30 c h) (simp (lt-leb 0x41 c (omega arith)) (simp (lt-leb 0x61 c (omega arith)))))
+-- the digit that std finds is the definition's: one test that is computed over the 256 characters
+abbrev agrees : ℕ → Bool
+agrees c = eqb (digit_of c) (cond (ltb (digit_value c) 16) (digit_value c) 16)
 
-  module _ (a : 0x30 ≤ c) where
-    pub in_digits : c ≤ 0x39 → c - 0x30 ≡ digit_of c
-    unfolding digit_of
-    in_digits h = sym (simp (le-leb 0x30 c a, le-leb c 0x39 h))
+abbrev agree_below : ℕ → Bool
+agree_below zero = true
+agree_below (suc n) = agrees n && agree_below n
 
-    module _ (b : 0x39 < c) where
-      pub below_capitals : c < 0x41 → 16 ≡ digit_of c
-      unfolding digit_of
-      below_capitals h =
-          sym (simp (le-leb 0x30 c a, lt-leb c 0x39 b) (simp (lt-leb 0x41 c h) (simp (lt-leb 0x61 c (omega arith)))))
+all_agree : agree_below 256 ≡ true
+unfolding digit_of
+all_agree = refl
 
-      module _ (d : 0x41 ≤ c) where
-        pub in_capitals : c ≤ 0x46 → c - 0x37 ≡ digit_of c
-        unfolding digit_of
-        in_capitals h = sym (simp (le-leb 0x30 c a, lt-leb c 0x39 b) (simp (le-leb 0x41 c d, le-leb c 0x46 h)))
+agree_at : (n c : ℕ) → agree_below n ≡ true → c < n → agrees c ≡ true
+agree_at zero c t h = absurd (omega arith)
+agree_at (suc n) c t h =
+    let two = both_true (agrees n) (agree_below n) t in
+    ⊎_elim (λ (e : eqb c n ≡ true). ap agrees (eqb-true c n e) ∙ two.0)
+    (λ (f : eqb c n ≡ false). let other = eqb-false c n f in agree_at n c two.1 (omega arith))
+    (true_or_false (eqb c n))
 
-        module _ (e : 0x46 < c) where
-          pub below_letters : c < 0x61 → 16 ≡ digit_of c
-          unfolding digit_of
-          below_letters h =
-              sym (simp (le-leb 0x30 c a, lt-leb c 0x39 b) (simp (le-leb 0x41 c d, lt-leb c 0x46 e) (simp (lt-leb 0x61 c h))))
+pub digit_found : (c d base : ℕ) → c < 256 → base ≤ 16 → digit_value c ≡ d → d < base → d ≡ digit_of c
+digit_found c d base h b e l =
+    sym (eqb-true (digit_of c) _ (agree_at 256 c all_agree h) ∙ cond_true (ltb (digit_value c) 16) _ _ (lt-ltb (digit_value c) 16 (omega arith)) ∙ e)
 
-          module _ (f : 0x61 ≤ c) where
-            pub in_letters : c ≤ 0x66 → c - 0x57 ≡ digit_of c
-            unfolding digit_of
-            in_letters h =
-                sym (simp (le-leb 0x30 c a, lt-leb c 0x39 b)
-                (simp (le-leb 0x41 c d, lt-leb c 0x46 e) (simp (le-leb 0x61 c f, le-leb c 0x66 h))))
-
-            pub above_letters : 0x66 < c → 16 ≡ digit_of c
-            unfolding digit_of
-            above_letters h =
-                sym (simp (le-leb 0x30 c a, lt-leb c 0x39 b)
-                (simp (le-leb 0x41 c d, lt-leb c 0x46 e) (simp (le-leb 0x61 c f, lt-leb c 0x66 h))))
+pub digit_missing : (c base : ℕ) → c < 256 → base ≤ 16 → base ≤ digit_value c → base ≤ digit_of c
+digit_missing c base h b l =
+    let e = eqb-true (digit_of c) _ (agree_at 256 c all_agree h) in
+    subst (λ (d : ℕ). base ≤ d) (sym e)
+    (by_cond (λ (d : ℕ). base ≤ d) (ltb (digit_value c) 16) (digit_value c) 16 (λ _. l) (λ _. b))
 
 -- a value above 255 stays so with a digit more
 more : (base value d : ℕ) → 1 ≤ base → 255 < value → 255 < base * value + d
@@ -71,11 +62,6 @@ large_stays base value (c ∷ cs) b h =
     by_cond (λ (n : ℕ). 255 < n) (ltb (digit_of c) base) (digits_read base (base * value + digit_of c) cs) 256
     (λ _. large_stays base (base * value + digit_of c) cs b (more base value (digit_of c) b h)) (λ _. omega arith)
 
--- two tests of which the second fails
-second_false : (x y : Bool) → y ≡ false → (x && y) ≡ false
-second_false true y e = e
-second_false false y e = refl
-
 -- one digit, of the base or not
 with_digit : (base value c : ℕ) (cs : List ℕ) → digit_of c < base
     → digits_read base value (c ∷ cs) ≡ digits_read base (base * value + digit_of c) cs
@@ -87,20 +73,20 @@ unfolding digits_read
 without_digit base value c cs h = simp (le-ltb (digit_of c) base h)
 
 -- no digits write no number
-pub no_digits : (base : ℕ) (word : List ℕ) → length word ≡ 0 → Wrong ≡ value_of base word
+pub no_digits : (base : ℕ) (word : List ℕ) → length word ≡ 0 → None ≡ value_of base word
 unfolding value_of
 no_digits base word e = sym (simp (eq-eqb (length word) 0 e))
 
 -- what is above 255 is no number, and what is not is one
-large_wrong : (base : ℕ) (word : List ℕ) → 255 < digits_read base 0 word → Wrong ≡ value_of base word
+large_wrong : (base : ℕ) (word : List ℕ) → 255 < digits_read base 0 word → None ≡ value_of base word
 unfolding value_of
 large_wrong base word h = sym (go (eqb (length word) 0))
   where
-    go : (b : Bool) → cond (b || ltb 255 (digits_read base 0 word)) Wrong (Byte (digits_read base 0 word)) ≡ Wrong
+    go : (b : Bool) → cond (b || ltb 255 (digits_read base 0 word)) None (Some (digits_read base 0 word)) ≡ None
     go true = refl
     go false = simp (lt-ltb 255 (digits_read base 0 word) h)
 
-small_byte : (base : ℕ) (word : List ℕ) (n : ℕ) → (length word ≡ 0 → ⊥) → n ≤ 255 → digits_read base 0 word ≡ n → Byte n ≡ value_of base word
+small_byte : (base : ℕ) (word : List ℕ) (n : ℕ) → (length word ≡ 0 → ⊥) → n ≤ 255 → digits_read base 0 word ≡ n → Some n ≡ value_of base word
 unfolding value_of
 small_byte base word n some h e = sym (simp (ne_eqb (length word) 0 some, e) (simp (le-ltb 255 n h)))
 
@@ -124,13 +110,13 @@ module _ (base value : ℕ) (word : List ℕ) (i : ℕ) (so : digits_read base 0
         ∙ ap (λ (n : ℕ). digits_read base (base * value + n) (drop (i + 1) word)) (sym stands)
 
     -- and brings the value above 255
-    pub too_large : 1 ≤ base → d < base → 255 < base * value + d → Wrong ≡ value_of base word
+    pub too_large : 1 ≤ base → d < base → 255 < base * value + d → None ≡ value_of base word
     too_large b h l =
         large_wrong base word
         (subst (λ (m : ℕ). 255 < m) (sym (one_more_lem h)) (large_stays base (base * value + d) (drop (i + 1) word) b l))
 
     -- it is none
-    pub wrong_digit : base ≤ d → Wrong ≡ value_of base word
+    pub wrong_digit : base ≤ d → None ≡ value_of base word
     wrong_digit h =
         let e =
         so
@@ -139,29 +125,36 @@ module _ (base value : ℕ) (word : List ℕ) (i : ℕ) (so : digits_read base 0
         large_wrong base word (omega (arith, e))
 
   -- nothing is left of it
-  pub all_read : (length word ≡ 0 → ⊥) → value ≤ 255 → length word ≤ i → Byte value ≡ value_of base word
+  pub all_read : (length word ≡ 0 → ⊥) → value ≤ 255 → length word ≤ i → Some value ≡ value_of base word
   unfolding digits_read
   all_read some small end = small_byte base word value some small (so ∙ ap (digits_read base value) (drop_of_length-le word end))
 
 -- a word that starts with 0x, and one that doesn't
-module _ (word : List ℕ) where
-  pub short_word : length word < 2 → value_of 10 word ≡ number_of word
-  unfolding number_of
-  short_word h =
-      sym (cond_false (eqb (get_or word 0 0) 0x30 && eqb (get_or word 1 0) 0x78) _ _
-      (second_false (eqb (get_or word 0 0) 0x30) (eqb (get_or word 1 0) 0x78)
-      (ne_eqb (get_or word 1 0) 0x78 (λ e. let z = get_or-eq_default word 0 {n = 1} (omega arith) in omega (arith, e, z)))))
+abbrev starts : List ℕ → Bool
+starts word = pointwise eqb (take 2 word) (0x30 ∷ 0x78 ∷ [])
 
-  pub other_first_lem : (get_or word 0 0 ≡ 0x30 → ⊥) → value_of 10 word ≡ number_of word
-  unfolding number_of
-  other_first_lem n = sym (simp (ne_eqb (get_or word 0 0) 0x30 n))
+chosen : (a b : Bool) (x y : Option ℕ) → (a && (b && true)) ≡ true → x ≡ cond (a && b) x y
+chosen true true x y e = refl
+chosen true false x y e = absurd (false≢true e)
+chosen false b x y e = absurd (false≢true e)
 
-  pub other_second : (get_or word 1 0 ≡ 0x78 → ⊥) → value_of 10 word ≡ number_of word
-  unfolding number_of
-  other_second n =
-      sym (cond_false (eqb (get_or word 0 0) 0x30 && eqb (get_or word 1 0) 0x78) _ _
-      (second_false (eqb (get_or word 0 0) 0x30) (eqb (get_or word 1 0) 0x78) (ne_eqb (get_or word 1 0) 0x78 n)))
+not_chosen : (a b : Bool) (x y : Option ℕ) → (a && (b && true)) ≡ false → y ≡ cond (a && b) x y
+not_chosen true true x y e = absurd (false≢true (sym e))
+not_chosen true false x y e = refl
+not_chosen false b x y e = refl
 
-  pub hexadecimal : get_or word 0 0 ≡ 0x30 → get_or word 1 0 ≡ 0x78 → value_of 16 (drop 2 word) ≡ number_of word
-  unfolding number_of
-  hexadecimal e f = sym (simp (eq-eqb (get_or word 0 0) 0x30 e, eq-eqb (get_or word 1 0) 0x78 f))
+one_only : (a : Bool) (x y : Option ℕ) → y ≡ cond (a && false) x y
+one_only true x y = refl
+one_only false x y = refl
+
+pub hexadecimal : (word : List ℕ) → starts word ≡ true → value_of 16 (drop 2 word) ≡ number_of word
+unfolding number_of
+hexadecimal [] e = absurd (false≢true e)
+hexadecimal (x ∷ []) e = absurd (false≢true (both_true (eqb x 0x30) false e).1)
+hexadecimal (x ∷ (y ∷ word)) e = chosen (eqb x 0x30) (eqb y 0x78) (value_of 16 word) (value_of 10 (x ∷ (y ∷ word))) e
+
+pub decimal : (word : List ℕ) → starts word ≡ false → value_of 10 word ≡ number_of word
+unfolding number_of
+decimal [] e = refl
+decimal (x ∷ []) e = one_only (eqb x 0x30) (value_of 16 []) (value_of 10 (x ∷ []))
+decimal (x ∷ (y ∷ word)) e = not_chosen (eqb x 0x30) (eqb y 0x78) (value_of 16 word) (value_of 10 (x ∷ (y ∷ word))) e

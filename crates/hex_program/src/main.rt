@@ -10,9 +10,7 @@ mod output;
 
 ghost use Rattle.std.specs.Prelude.{◌≤◌, length};
 
-use hex_rules::Converted;
-use input::Asked;
-use memory_address::{Group, Module};
+use recipe::Numbers;
 use std::process::ExitCode;
 
 // The longest text that is converted, in bytes.
@@ -25,45 +23,43 @@ const ASKED: usize = 1048577;
 const ROOM: usize = 71172;
 
 // Converts a text and writes the recipe, or says which line is refused and why. The room does (proofs/HasRoom.antt).
-fn convert(rt: &HostRuntime, text: &[u8], m: Module, g: Group) -> ExitCode
+fn convert(rt: &HostRuntime, text: &[u8], numbers: Numbers) -> ExitCode
     requires { length text.now ≤ 1048576 }
 {
     let mut recipe = [0u8; ROOM];
-    let converted = hex_read::convert(text, m, g, &mut recipe);
-    match converted {
-        Converted::Refused { number, line } => output::refuse(rt, number, line),
-        Converted::Made(size) => output::write_recipe(rt, &recipe[..size]),
+    match hex_read::convert(text, numbers, &mut recipe) {
+        Ok(size) => output::write_recipe(rt, &recipe[..size]),
+        Err(refusal) => output::refuse(rt, refusal),
     }
 }
 
 // Converts the first n bytes, or says that the file is too long.
-fn convert_first(rt: &HostRuntime, bytes: &[u8], n: usize, m: Module, g: Group) -> ExitCode
+fn convert_first(rt: &HostRuntime, bytes: &[u8], n: usize, numbers: Numbers) -> ExitCode
     requires { 1048577 ≤ length bytes.now }
 {
     if n > MOST {
         return output::refuse_long(rt);
     }
-    convert(rt, &bytes[..n], m, g)
+    convert(rt, &bytes[..n], numbers)
 }
 
 // The same of all that was asked for.
-fn convert_asked(rt: &HostRuntime, bytes: &[u8; ASKED], n: usize, m: Module, g: Group) -> ExitCode {
-    convert_first(rt, bytes, n, m, g)
+fn convert_asked(rt: &HostRuntime, bytes: &[u8; ASKED], n: usize, numbers: Numbers) -> ExitCode {
+    convert_first(rt, bytes, n, numbers)
 }
 
 // Converts what the first argument names, for these numbers.
-fn convert_file(rt: &HostRuntime, m: Module, g: Group) -> ExitCode {
+fn convert_file(rt: &HostRuntime, numbers: Numbers) -> ExitCode {
     let mut bytes = [0u8; ASKED];
-    match program_io::read_argument(rt, 1, &mut bytes) {
-        Some(n) => convert_asked(rt, &bytes, n, m, g),
+    match input::read_text(rt, &mut bytes) {
+        Some(n) => convert_asked(rt, &bytes, n, numbers),
         None => ExitCode::SUCCESS,
     }
 }
 
 fn main(rt: HostRuntime) -> ExitCode {
-    let asked = input::arguments(&rt);
-    match asked {
-        Asked::Recipe { module, group } => convert_file(&rt, module, group),
-        Asked::Nothing => ExitCode::SUCCESS,
+    match input::arguments(&rt) {
+        Some(numbers) => convert_file(&rt, numbers),
+        None => ExitCode::SUCCESS,
     }
 }

@@ -1,7 +1,9 @@
 // What is written: the recipe, on standard output or into the file that the fourth argument names; or why there is none, on standard
 // error. What is written for main answers the status that the program ends with.
-ghost use Rattle.std.specs.Prelude.{◌≤◌};
+ghost use Rattle.std.specs.Prelude.{◌≢◌};
+ghost use Rattle.hex_rules.specs.declared.Fault.TheVariants.{NoRoom};
 
+use hex_rules::{Fault, Refusal};
 use std::io::{Eprint, Write};
 use std::process::ExitCode;
 
@@ -25,42 +27,44 @@ fn tell_file(rt: &HostRuntime) {
     tell(rt, &name[..n]);
 }
 
-// What is wrong at the line that is refused with this number.
-fn tell_why(rt: &HostRuntime, number: u8)
-    requires { (30 ≤ number) × (number ≤ 35) }
+// What is wrong at the line that is refused.
+fn tell_why(rt: &HostRuntime, fault: Fault)
+    requires { fault ≢ NoRoom }
 {
-    match number {
-        30 => tell(
+    match fault {
+        Fault::BadForm => tell(
             rt,
             b"a bad digit or length: a record is a colon and pairs of digits, as many as it says; type 01 has no data, type 04 two bytes",
         ),
-        31 => tell(rt, b"the record's sum is wrong"),
-        32 => tell(rt, b"the record's type is none of 00, 01 and 04"),
-        33 => tell(
+        Fault::BadSum => tell(rt, b"the record's sum is wrong"),
+        Fault::OtherType => tell(rt, b"the record's type is none of 00, 01 and 04"),
+        Fault::CellOutside => tell(
             rt,
             b"the record gives a cell outside FLASH 0x001000 to 0x00FFFF and EEPROM 0xF00000 to 0xF003FF",
         ),
-        34 => tell(rt, b"the record gives a cell that was given before"),
-        _ => tell(
+        Fault::CellTwice => tell(rt, b"the record gives a cell that was given before"),
+        Fault::WrongEnd => tell(
             rt,
             b"the end record is missing, or something stands behind it",
         ),
+        Fault::NoRoom => unreachable!(),
     }
 }
 
-// Says why there is no recipe: the refusal's number and line on the first line, then a sentence.
-pub fn refuse(rt: &HostRuntime, number: u8, line: usize) -> ExitCode
-    requires { (30 ≤ number) × (number ≤ 35) }
+// Says why there is no recipe: the refusal's number and line on the first line, then a sentence. The room does, so that it is another
+// fault.
+pub fn refuse(rt: &HostRuntime, refusal: Refusal) -> ExitCode
+    requires { refusal.fault ≢ NoRoom }
 {
-    tell_number(rt, number as usize);
+    tell_number(rt, refusal.fault.number() as usize);
     tell(rt, b" ");
-    tell_number(rt, line);
+    tell_number(rt, refusal.line);
     tell(rt, b"\n");
     tell_file(rt);
     tell(rt, b", line ");
-    tell_number(rt, line);
+    tell_number(rt, refusal.line);
     tell(rt, b": ");
-    tell_why(rt, number);
+    tell_why(rt, refusal.fault);
     tell(rt, b"\n");
     ExitCode::SUCCESS
 }

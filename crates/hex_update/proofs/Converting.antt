@@ -14,8 +14,7 @@ use lib.Seq.{take-append_seam, drop-append_seam}
 use borrow.Author.Tests.{lt-ltb, le-ltb, ltb-true, ltb-false}
 use Rattle.base.proofs.Choice.{cond_true, cond_false, true_or_false}
 use Rattle.recipe.specs.Items.{Recipe, Legal, printed}
-use Rattle.hex_rules.specs.declared.Converted.{Converted}
-use Rattle.hex_rules.specs.declared.Converted.TheVariants.{Made, Refused}
+use Rattle.hex_rules.specs.Refusing.{Converted, Made, Refused}
 use Rattle.hex_rules.specs.Text.{lines_of}
 use Rattle.hex_rules.specs.Cells.{Cell}
 use Rattle.hex_rules.specs.Checks.{Given, Read, gives, refused, fault_at}

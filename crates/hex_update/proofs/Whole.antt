@@ -17,8 +17,7 @@ use Rattle.update_rules.specs.Mirror.{answers_of}
 use Rattle.update_deliver.specs.Delivering.{Left}
 use Rattle.update.specs.Calls.{Deliver}
 use Rattle.update.proofs.Whole.{deliver_arrives}
-use Rattle.hex_rules.specs.declared.Converted.{Converted}
-use Rattle.hex_rules.specs.declared.Converted.TheVariants.{Made}
+use Rattle.hex_rules.specs.Refusing.{Converted, Made}
 use Rattle.hex_rules.specs.Cells.{Cell}
 use Rattle.hex_rules.specs.Checks.{gives}
 use Rattle.hex_rules.specs.Converting.{text_read}
