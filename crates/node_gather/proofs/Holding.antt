@@ -12,7 +12,7 @@ use lib.Seq.{length-take-le, take_at, drop_at}
 use borrow.Author.Tests.{eqb-true, ne_eqb, lt-ltb, le-ltb}
 use borrow.Rule.Slice.PartMut.{put_mid}
 use Rattle.std.specs.Prelude.{Some, None, Result, Ok, Err}
-use Rattle.std.proofs.lemmas.List.{drop-replicate}
+use Rattle.std.proofs.lemmas.List.{drop-replicate, length-drop, take_all}
 use Rattle.std.proofs.lemmas.Bool.{cases_lt}
 use Rattle.base.specs.Parts.{part}
 use Rattle.base.proofs.Choice.{cond_true, cond_false, cond_same}
@@ -48,9 +48,19 @@ stored xs ys k l m =
       z,
     ) (sym (append_assoc xs ys (replicate (15 - length (xs ++ ys)) 0)))
 
-module _ (q : Receiver) (bs : List ℕ) (from k : ℕ) (rest bytes : List ℕ) (tidy : q ≡ receiving (held_in q)) (start : from ≡ start_of q.count bs)
-    (few : from ≤ length bs) (isRest : rest ≡ drop from bs) (most : k ≡ min (length rest) (15 - q.count))
-    (isBytes : bytes ≡ put_mid q.count k q.held (take k rest)) where
+-- `rest` is the part of the piece that is left, and w the cells that k of its bytes are copied to
+module _ (q : Receiver) (bs : List ℕ) (from k : ℕ) (w : List ℕ) (tidy : q ≡ receiving (held_in q)) (start : from ≡ start_of q.count bs)
+    (few : from ≤ length bs) (most : k ≡ min (length (take (length bs - from) (drop from bs))) (15 - q.count))
+    (copied : w ≡ take k (take (length bs - from) (drop from bs))) where
+  abbrev rest : List ℕ
+  rest = take (length bs - from) (drop from bs)
+
+  abbrev bytes : List ℕ
+  bytes = put_mid q.count ((q.count + k) - q.count) q.held w
+
+  isRest : rest ≡ drop from bs
+  isRest = take_all (length bs - from) (drop from bs) (omega (arith, length-drop from bs))
+
   abbrev xs : List ℕ
   xs = held_in q
 
@@ -83,7 +93,9 @@ module _ (q : Receiver) (bs : List ℕ) (from k : ℕ) (rest bytes : List ℕ) (
 
   holds : bytes ≡ padded ys
   holds =
-      isBytes
+      let room : (q.count + k) - q.count ≡ k = omega arith in
+      ap (λ (x : List ℕ). put_mid q.count ((q.count + k) - q.count) q.held x) copied
+      ∙ ap (λ (j : ℕ). put_mid q.count j q.held (take k rest)) room
       ∙ ap (λ (r : Receiver). put_mid r.count k r.held (take k rest)) tidy
       ∙ stored xs (take k rest) k here (omega (arith, counts, few_held q))
 
