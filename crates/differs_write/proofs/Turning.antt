@@ -99,6 +99,9 @@ module _ (s image : List ℕ) (last : List (Option ℕ)) (f : List ℕ) (place n
   not_first : (kind_of t ≡ 0x01 → ⊥) → eqb number 1 ≡ false
   not_first k = sym (cond_false (eqb (kind_of t) 0x01) (not (eqb number 1)) (eqb number 1) (ne_eqb (kind_of t) 0x01 k)) ∙ in_order
 
+  other_first : {n : ℕ} → kind_of t ≡ n → (n ≡ 0x01 → ⊥) → eqb number 1 ≡ false
+  other_first k n = not_first (λ (e : kind_of t ≡ 0x01). n (sym k ∙ e))
+
   -- ---- what is written so far
 
   abbrev head : List Item → List ℕ
@@ -171,7 +174,7 @@ module _ (s image : List ℕ) (last : List (Option ℕ)) (f : List ℕ) (place n
     on_row k =
         let i = row (address_of t) (part t 4 8) in
         else_kept (rw k) shows (i ∷ []) (rw k) refl refl refl (λ kept h.
-        let later = not_first (λ (e : kind_of t ≡ 0x01). let z : ◌≡◌ {A = ℕ} 0x03 0x01 = sym k ∙ e in omega (arith, z)) in
+        let later = other_first k (λ e. omega (arith, e)) in
         ap₂ (λ (x y : List ℕ). x ++ y) (before later kept)
         (ap (part s place) (size_by 0x03 k) ∙ item_printed 8 t t_bytes (rw (size_by 0x03 k) at none.whole) ∙ ap (λ (x : ℕ). x ∷ (address_bytes (address_of t) ++ part t 4 8)) k)
         ∙ sym (ap (λ (x : ℕ). written s (number + 1) (eqb x 0x0F) (kept ++ (i ∷ []))) k
@@ -184,7 +187,7 @@ module _ (s image : List ℕ) (last : List (Option ℕ)) (f : List ℕ) (place n
     on_leave : kind_of t ≡ 0x0F → Turned s image last f place number
     unfolding kept_items block_count left_by_all
     on_leave k = else_kept (rw k) shows [] (rw k) refl refl refl (λ kept h.
-        let later = not_first (λ (e : kind_of t ≡ 0x01). let z : ◌≡◌ {A = ℕ} 0x0F 0x01 = sym k ∙ e in omega (arith, z)) in
+        let later = other_first k (λ e. omega (arith, e)) in
         ap₂ (λ (x y : List ℕ). x ++ y) (before later kept)
         (ap (part s place) (size_by 0x0F k) ∙ one_byte t (rw (size_by 0x0F k) at none.whole) ∙ ap (λ (x : ℕ). x ∷ []) k)
         ∙ sym (ap (λ (x : ℕ). written s (number + 1) (eqb x 0x0F) (kept ++ [])) k
@@ -260,7 +263,7 @@ module _ (s image : List ℕ) (last : List (Option ℕ)) (f : List ℕ) (place n
             ∙ ap (λ (js : List Item). left_by_all js f) (sym (let e : items_at t ≡ i ∷ [] = rw k in e)))
             (shows_block s image last f shows a (multiple a legal) within (place + 4) (omega (arith, inside)) blocks));
         bytes = λ kept h.
-            let later = not_first (λ (e : kind_of t ≡ 0x01). let z : ◌≡◌ {A = ℕ} 0x02 0x01 = sym k ∙ e in omega (arith, z)) in
+            let later = other_first k (λ e. omega (arith, e)) in
             ap₂ (λ (x : List ℕ) (n : ℕ). x ++ cond (not (stands i f)) (part s place n) []) (before later kept) (size_by 0x02 k)
             ∙ added (stands i f) kept
             ∙ sym (ap₂ (λ (x : ℕ) (js : List Item). written s (number + 1) (eqb x 0x0F) (kept ++ js)) k one_kept

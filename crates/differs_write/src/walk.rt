@@ -52,7 +52,7 @@ impl Walk {
     }
 }
 
-// How many erases an item of a kind is.
+// How many erases an item of a kind is. A kind stays the recipe's byte: an enum would have to be read from it at each item first.
 fn erases_of_kind(kind: u8) -> usize
     ensures { (result ≡ erases_of_kind kind) × (result ≤ 1) }
 {

@@ -49,6 +49,7 @@ pub fn arguments(rt: &HostRuntime) -> Option<Numbers> {
 }
 
 // Reads as much of the text as buf holds, from what the first argument names.
+// The array goes whole: a caller that lends one of this size as a slice runs the check out of stack.
 pub fn read_text(rt: &HostRuntime, buf: &mut [u8; 1048577]) -> Option<usize> {
     program_io::read_argument(rt, 1, buf)
 }

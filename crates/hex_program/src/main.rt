@@ -43,7 +43,7 @@ fn convert_first(rt: &HostRuntime, bytes: &[u8], n: usize, numbers: Numbers) -> 
     convert(rt, &bytes[..n], numbers)
 }
 
-// The same of all that was asked for.
+// The same of all that was asked for, an array that goes whole, as in input::read_text.
 fn convert_asked(rt: &HostRuntime, bytes: &[u8; ASKED], n: usize, numbers: Numbers) -> ExitCode {
     convert_first(rt, bytes, n, numbers)
 }

@@ -16,33 +16,24 @@ pub struct Examined {
 }
 
 // Whether the three cells, 0x001010 to 0x001012, are others than 30 00 03. A cell that isn't there counts as 0.
+#[tactic(auto, unfolding(crate::specs::Start::cells_differ))]
 fn cells_differ(flash: &[u8]) -> bool
     ensures { result ≡ cells_differ flash.now }
 {
     let at = THREE_CELLS.0 as usize;
-    if base::byte_at(flash, at) != 0x30 {
-        return true;
-    }
-    if base::byte_at(flash, at + 1) != 0x00 {
-        return true;
-    }
-    base::byte_at(flash, at + 2) != 0x03
+    let cells = [
+        base::byte_at(flash, at),
+        base::byte_at(flash, at + 1),
+        base::byte_at(flash, at + 2),
+    ];
+    cells != [0x30, 0x00, 0x03]
 }
 
 // The flag byte: bit 0 for the sums, bit 1 for the three cells.
 fn flags_of(sums: bool, cells: bool) -> u8
     ensures { result ≡ flags_of sums cells }
 {
-    if sums {
-        if cells {
-            return 3;
-        }
-        return 1;
-    }
-    if cells {
-        return 2;
-    }
-    0
+    u8::from(sums) + 2 * u8::from(cells)
 }
 
 // What is found of a FLASH of any length: the worked-out sum and the flag byte, as it is when asked. Of another length than 65,536 both

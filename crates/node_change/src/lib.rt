@@ -18,7 +18,7 @@ fn set_bootfl(eeprom: &mut [u8], v: u8)
     }
 }
 
-// A write at either kind of address. A memory of the wrong length, or one written at an illegal address, stays as it is.
+// A write at either kind of address. A refused one leaves the memory as it is, and nobody asks for the reason.
 fn put(at: Address, d: [u8; 8], flash: &mut [u8], eeprom: &mut [u8])
     ensures { (flash.new ≡ flash_after (Memory.Written at) d flash.old) ×
         (eeprom.new ≡ eeprom_after (Memory.Written at) d eeprom.old) }

@@ -10,7 +10,7 @@ ghost use Rattle.recipe.specs.Translation.{found_number};
 
 use recipe::{Fault, Kind};
 
-// How many bytes an item of a kind takes: its kind and its body.
+// How many bytes an item of a kind takes: its kind and its body. The kind is a byte, so that a byte that names none takes one, too.
 pub fn size_of_kind(kind: u8) -> usize
     ensures { (result ≡ 1 + body_length kind) × (1 ≤ result) × (result ≤ 68) }
 {

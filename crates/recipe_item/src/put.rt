@@ -49,6 +49,7 @@ pub fn put_writes(
     ensures { output.new
         ≡ patch output.old at (joined (writes numbers.module.0 numbers.group.0 8 address (part input.now from 64))) }
 {
+    // A range: the input's cells, the output's frames and the address go on by different steps of the same number.
     for i in 0..8 {
         let cells = from + 8 * i;
         put_pair(

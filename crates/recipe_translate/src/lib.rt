@@ -20,6 +20,7 @@ pub fn check(input: &[u8]) -> Result<usize, Refusal>
     ensures { (in_numbers result ≡ checked input.now) × BytesIfTaken (in_numbers result) input.now }
 {
     let mut c = START;
+    // A while: each step is as long as the item that it reads, so that no range or chunk has the places.
     while c.place < input.len() {
         let place = c.place;
         if let Err(fault) = recipe_fault::fault_at(input, place, c.number, c.ended) {
@@ -48,6 +49,7 @@ fn put_frames(input: &[u8], output: &mut [u8])
         group: Group(base::byte_at(input, 2)),
     };
     let mut c = START;
+    // A while, as in `check`.
     while c.place < input.len() {
         recipe_item::put_item(input, c.place, output, 12 * c.frames, numbers);
         c = cursor::next(input, c);

@@ -2,14 +2,14 @@
 use crate::hand::Handed;
 use crate::header::Header;
 use crate::line::Line;
-use crate::{hand, pieces, slices, start};
-use recipe::Translated;
+use crate::{hand, pieces, start};
+use recipe::Refusal;
 
 // The line of a refusal.
-fn refused(number: u8, place: usize, output: &[u8]) -> Line {
+fn refused(refusal: Refusal, output: &[u8]) -> Line {
     Line {
-        number: number as u64,
-        place: place as u64,
+        number: refusal.fault.number(),
+        place: refusal.place,
         frames: run_digest::with_bytes(0, output),
         answers: 0,
         flash: 0,
@@ -20,28 +20,27 @@ fn refused(number: u8, place: usize, output: &[u8]) -> Line {
 
 // The memories before the frames: filled, with BOOTFL 0xFF and the own numbers.
 fn prepare(h: Header, flash: &mut [u8], eeprom: &mut [u8]) {
-    slices::fill(flash, h.flash, h.step, h.more);
-    slices::fill(eeprom, h.eeprom, h.step, h.more);
-    slices::put(eeprom, 0, 0xFF);
-    slices::put(eeprom, 0x26, h.own);
-    slices::put(eeprom, 0x27, h.group);
+    run_stream::fill(flash, h.flash, h.step, h.more);
+    run_stream::fill(eeprom, h.eeprom, h.step, h.more);
+    base::put(eeprom, 0, &[0xFF]);
+    base::put(eeprom, 0x26, &[h.own, h.group]);
 }
 
 // The node that the frames are handed to: restarted, in whose record then stands what the header says.
 fn started(h: Header, flash: &[u8], eeprom: &[u8]) -> Handed {
-    let begin = h.begin;
-    let r = start::restarted(begin, flash, eeprom);
-    let node = start::begun(begin, r.node);
-    Handed { node, answers: 0 }
+    let r = start::restarted(h.begin, flash, eeprom);
+    Handed {
+        node: start::begun(h.begin, r.node),
+        answers: 0,
+    }
 }
 
 // The line of a recipe that became `count` frames.
 fn done(count: usize, output: &[u8], h: Handed, flash: &[u8], eeprom: &[u8]) -> Line {
-    let node = h.node;
-    let last = run_record::bytes_of(node);
+    let last = run_record::bytes_of(h.node);
     Line {
         number: 0,
-        place: count as u64,
+        place: count,
         frames: run_digest::with_bytes(0, output),
         answers: h.answers,
         flash: run_digest::with_bytes(0, flash),
@@ -66,7 +65,7 @@ fn frames(
     hand::frames(first, h.port, output, count, flash, eeprom)
 }
 
-// The frames of an output, handed to a node over prepared memories.
+// The frames of an output, handed to a node over memories that are prepared for them.
 fn hand_over(
     h: Header,
     count: usize,
@@ -75,22 +74,10 @@ fn hand_over(
     flash: &mut [u8],
     eeprom: &mut [u8],
 ) -> Line {
+    prepare(h, flash, eeprom);
     let first = started(h, flash, eeprom);
     let last = frames(first, h, count, output, serial, flash, eeprom);
     done(count, output, last, flash, eeprom)
-}
-
-// The same over memories that are still to be prepared.
-fn apply(
-    h: Header,
-    count: usize,
-    output: &[u8],
-    serial: &mut [u8],
-    flash: &mut [u8],
-    eeprom: &mut [u8],
-) -> Line {
-    prepare(h, flash, eeprom);
-    hand_over(h, count, output, serial, flash, eeprom)
 }
 
 // The line of a recipe, with the output that is lent to its translation, and room for its frames as they go out on UART.
@@ -102,10 +89,9 @@ pub fn recipe(
     flash: &mut [u8],
     eeprom: &mut [u8],
 ) -> Line {
-    slices::fill(output, 0xEE, 0, 0);
-    let t = recipe_translate::translate(input, output);
-    match t {
-        Translated::Frames(count) => apply(h, count, output, serial, flash, eeprom),
-        Translated::Refused { number, place } => refused(number, place, output),
+    output.fill(0xEE);
+    match recipe_translate::translate(input, output) {
+        Ok(count) => hand_over(h, count, output, serial, flash, eeprom),
+        Err(refusal) => refused(refusal, output),
     }
 }

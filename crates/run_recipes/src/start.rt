@@ -2,12 +2,13 @@
 use base::byte_at;
 use memory_address::{Address, EepromPlace, FlashAddress};
 use node_rules::{Choices, Mode, Node, Noise, Pin, Receiver, Restarted, Staged};
+use run_stream::{number, part};
 
-// What a header says of it: the pin's byte, the way's byte (0: nothing is said of it), what is staged, and the held bytes with their count.
+// What a header says of it: the pin, the way where one is asked for, what is staged, and the held bytes with their count.
 #[derive(Clone, Copy)]
 pub struct Begin {
-    pub pin: u8,
-    pub way: u8,
+    pub pin: Pin,
+    pub way: Option<Noise>,
     pub staged: Staged,
     pub count: usize,
     pub held: [u8; 15],
@@ -19,15 +20,6 @@ fn pin(b: u8) -> Pin {
         return Pin::CanOnly;
     }
     Pin::CanAndUart
-}
-
-// The four bytes from the header's nineteenth on as a number, high byte first.
-fn number(s: &[u8]) -> u32 {
-    let first = byte_at(s, 19) as u32;
-    let second = byte_at(s, 20) as u32;
-    let third = byte_at(s, 21) as u32;
-    let fourth = byte_at(s, 22) as u32;
-    first * 16_777_216 + second * 65_536 + third * 256 + fourth
 }
 
 // The address as its kind says: 0 FLASH, else EEPROM.
@@ -48,78 +40,56 @@ fn staged(s: u8, kind: u8, a: u32) -> Staged {
     }
 }
 
-// The 14 held bytes, from the header's byte 24 on.
-fn held(s: &[u8]) -> [u8; 15] {
-    [
-        byte_at(s, 24),
-        byte_at(s, 25),
-        byte_at(s, 26),
-        byte_at(s, 27),
-        byte_at(s, 28),
-        byte_at(s, 29),
-        byte_at(s, 30),
-        byte_at(s, 31),
-        byte_at(s, 32),
-        byte_at(s, 33),
-        byte_at(s, 34),
-        byte_at(s, 35),
-        byte_at(s, 36),
-        byte_at(s, 37),
-        0,
-    ]
+// The 14 held bytes, from the header's byte 24 on, and a 0.
+fn held(record: &[u8]) -> [u8; 15] {
+    let mut held = [0; 15];
+    base::put(&mut held, 0, part(record, 24, 14));
+    held
 }
 
-// The way's byte: where nothing is said, the old way's, if that is meant.
-fn way(b: u8, old: bool) -> u8 {
-    if b == 0 && old {
-        return 2;
+// The way after noise, as a byte says: 1 the new one, more the old one. Where it says nothing of it, none; or the old one, if that is meant.
+fn way(b: u8, old: bool) -> Option<Noise> {
+    match (b, old) {
+        (0, false) => None,
+        (1, _) => Some(Noise::KeepFromNext),
+        _ => Some(Noise::DropAll),
     }
-    b
 }
 
-// 1 says the new way after noise, more the old one.
-fn noise(b: u8) -> Noise {
-    if b < 2 {
-        return Noise::KeepFromNext;
-    }
-    Noise::DropAll
-}
-
-pub fn read(s: &[u8], old: bool) -> Begin {
+// What the header in this record says; where it says nothing of the way, the old one may be meant.
+pub fn read(record: &[u8], old: bool) -> Begin {
+    let staged = staged(byte_at(record, 17), byte_at(record, 18), number(record, 19));
     Begin {
-        pin: byte_at(s, 16),
-        way: way(byte_at(s, 40), old),
-        staged: staged(byte_at(s, 17), byte_at(s, 18), number(s)),
-        count: byte_at(s, 23) as usize,
-        held: held(s),
+        pin: pin(byte_at(record, 16)),
+        way: way(byte_at(record, 40), old),
+        staged,
+        count: byte_at(record, 23) as usize,
+        held: held(record),
     }
 }
 
 // A fresh node with fixed bytes 0, restarted with a passing self-test: plainly, where nothing is said of the way.
 pub fn restarted(b: Begin, flash: &[u8], eeprom: &[u8]) -> Restarted {
-    let pin = pin(b.pin);
     let fresh = node::fresh([0; 6]);
-    if b.way == 0 {
-        return node::restart(fresh, pin, true, flash, eeprom);
+    match b.way {
+        None => node::restart(fresh, b.pin, true, flash, eeprom),
+        Some(noise) => {
+            let choices = Choices { pin: b.pin, noise };
+            node::restart_with(fresh, choices, true, flash, eeprom)
+        }
     }
-    let noise = noise(b.way);
-    let choices = Choices { pin, noise };
-    node::restart_with(fresh, choices, true, flash, eeprom)
 }
 
 // The restarted record with these held bytes, in programming mode with this staged. Nothing is tidied.
 pub fn begun(b: Begin, n: Node) -> Node {
-    let choices = n.choices;
-    let plate = n.plate;
     let held = b.held;
-    let staged = b.staged;
     Node {
-        choices,
-        plate,
+        choices: n.choices,
+        plate: n.plate,
         receiver: Receiver {
             held,
             count: b.count,
         },
-        mode: Mode::Programming(staged),
+        mode: Mode::Programming(b.staged),
     }
 }

@@ -1,12 +1,12 @@
-// How the long runs write things down (second/PROTOCOL.md): the node's record as 31 bytes.
+// How the long runs write things down (second/PROTOCOL.md): the node's record as 31 bytes, and what a call answers.
 #![tactic(auto)]
 
 mod last;
 
 ghost use Rattle.std.specs.Prelude.{◌≡◌};
-ghost use Rattle.run_record.specs.Internal.Record.{pin_byte, node_bytes};
+ghost use Rattle.run_record.specs.Internal.Record.{pin_byte, node_bytes, told_of};
 
-use node_rules::{Node, Pin};
+use node_rules::{Node, Pin, Refusal, Replies};
 
 // The byte of the pin.
 fn pin_byte(p: Pin) -> u8
@@ -64,4 +64,20 @@ pub fn bytes_of(n: Node) -> [u8; 31]
         (last.address / 256 % 256) as u8,
         (last.address % 256) as u8,
     ]
+}
+
+// What a call answered: document 01's number, and the replies. A refusal has none, and 0 stands for their bytes.
+pub fn told<const N: usize>(outcome: Result<Replies<N>, Refusal>) -> (u8, Replies<N>)
+    ensures { result ≡ told_of N outcome.entry }
+{
+    match outcome {
+        Ok(replies) => (0, replies),
+        Err(refusal) => (
+            refusal.number(),
+            Replies {
+                count: 0,
+                bytes: [0; N],
+            },
+        ),
+    }
 }

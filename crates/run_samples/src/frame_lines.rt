@@ -1,8 +1,17 @@
 // Lines for the frames. Each has a name, what is handed in, document 01's number, and what stands in the lent output afterwards: a
 // refusal leaves the EE that it was filled with.
 use crate::print;
+use frame_can::Refusal;
 use std::io;
 use std::io::Write;
+
+// Document 01's number of an outcome.
+fn number_of(outcome: Result<(), Refusal>) -> u8 {
+    match outcome {
+        Ok(()) => 0,
+        Err(refusal) => refusal.number(),
+    }
+}
 
 // Identifier and data to a frame.
 pub fn to_frame<W: Write>(
@@ -12,10 +21,10 @@ pub fn to_frame<W: Write>(
     data: &[u8],
     frame: &mut [u8],
 ) -> io::Result<()> {
-    let number = frame_can::to_hapcan(identifier, data, frame);
+    let outcome = frame_can::to_hapcan(identifier, data, frame);
     print::identifier(printer, name, identifier)?;
     print::bytes(printer, " with", data)?;
-    print::answer(printer, number, ", frame", frame)
+    print::answer(printer, number_of(outcome), ", frame", frame)
 }
 
 // A frame to identifier and data.
@@ -25,12 +34,15 @@ pub fn to_identifier<W: Write>(
     frame: &[u8],
     data: &mut [u8],
 ) -> io::Result<()> {
-    let identified = frame_can::to_can(frame, data);
+    let (number, identifier) = match frame_can::to_can(frame, data) {
+        Ok(identifier) => (0, identifier),
+        Err(refusal) => (refusal.number(), 0),
+    };
     print::bytes(printer, name, frame)?;
-    print::decimal(printer, " gives ", identified.number as u64)?;
-    print::identifier(printer, ", identifier ", identified.identifier)?;
+    write!(printer, " gives {number}")?;
+    print::identifier(printer, ", identifier ", identifier)?;
     print::bytes(printer, " with", data)?;
-    print::text(printer, "\n")
+    writeln!(printer)
 }
 
 // A frame wrapped for UART.
@@ -40,9 +52,9 @@ pub fn wrapping<W: Write>(
     frame: &[u8],
     wrapped: &mut [u8],
 ) -> io::Result<()> {
-    let number = frame_uart::wrap(frame, wrapped);
+    let outcome = frame_uart::wrap(frame, wrapped);
     print::bytes(printer, name, frame)?;
-    print::answer(printer, number, ", wrapped", wrapped)
+    print::answer(printer, number_of(outcome), ", wrapped", wrapped)
 }
 
 // What came on UART, unwrapped.
@@ -52,7 +64,7 @@ pub fn unwrapping<W: Write>(
     wrapped: &[u8],
     frame: &mut [u8],
 ) -> io::Result<()> {
-    let number = frame_uart::unwrap(wrapped, frame);
+    let outcome = frame_uart::unwrap(wrapped, frame);
     print::bytes(printer, name, wrapped)?;
-    print::answer(printer, number, ", frame", frame)
+    print::answer(printer, number_of(outcome), ", frame", frame)
 }

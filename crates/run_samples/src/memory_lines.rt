@@ -4,20 +4,13 @@ use memory_address::Address;
 use std::io;
 use std::io::Write;
 
-// Where a legal command works.
-fn memory<W: Write>(printer: &mut W, cells: Address) -> io::Result<()> {
-    match cells {
-        Address::Flash(_) => print::text(printer, " is legal in FLASH\n"),
-        Address::Eeprom(_) => print::text(printer, " is legal in EEPROM\n"),
-    }
-}
-
 // What the address rule says of a command at a number; `name` has the command's name in it.
 pub fn legal<W: Write>(printer: &mut W, name: &str, command: u32, at: u32) -> io::Result<()> {
     print::hex(printer, name, at)?;
     match memory_address::rule(at, command) {
-        Some(cells) => memory(printer, cells),
-        None => print::text(printer, " is illegal\n"),
+        Some(Address::Flash(_)) => writeln!(printer, " is legal in FLASH"),
+        Some(Address::Eeprom(_)) => writeln!(printer, " is legal in EEPROM"),
+        None => writeln!(printer, " is illegal"),
     }
 }
 
@@ -32,7 +25,7 @@ pub fn written<W: Write>(
     print::bytes(printer, " written over", cells)?;
     memory_cells::write_flash_cells(cells, new);
     print::bytes(printer, " leaves", cells)?;
-    print::text(printer, "\n")
+    writeln!(printer)
 }
 
 // The row at an address, with the number that goes with it.
@@ -58,8 +51,8 @@ pub fn sums<W: Write>(printer: &mut W, name: &str, flash: &[u8]) -> io::Result<(
     print::hex(printer, name, memory_sum::firmware_sum(flash))?;
     print::hex(printer, ", stored ", memory_sum::stored_sum(flash))?;
     if memory_start::firmware_starts(flash) {
-        print::text(printer, ", start\n")
+        writeln!(printer, ", start")
     } else {
-        print::text(printer, ", no start\n")
+        writeln!(printer, ", no start")
     }
 }

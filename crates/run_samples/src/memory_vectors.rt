@@ -51,8 +51,8 @@ fn shown<'a, W: Write>(printer: &mut W, flash: &'a [u8], eeprom: &'a [u8]) -> io
 // A row written in each of two memories, and shown.
 fn written<W: Write>(printer: &mut W, flash: &mut [u8], eeprom: &mut [u8]) -> io::Result<()> {
     let new = [0x41u8, 0x42, 0x43, 0x44, 0x45, 0x46, 0x47, 0x48];
-    memory_cells::write_flash(flash, memory_address::STORED_SUM, new);
-    memory_cells::write_eeprom(eeprom, memory_address::DESCRIPTION, new);
+    let _ = memory_cells::write_flash(flash, memory_address::STORED_SUM, new);
+    let _ = memory_cells::write_eeprom(eeprom, memory_address::DESCRIPTION, new);
     shown(printer, flash, eeprom)
 }
 

@@ -1,16 +1,17 @@
 // Lines for recipes.
 use crate::print;
-use recipe::Translated;
+use recipe::Refusal;
 use std::io;
 use std::io::Write;
 
 // The answer: how many frames, or the refusal's number and place.
-fn answer<W: Write>(printer: &mut W, translated: Translated) -> io::Result<()> {
+fn answer<W: Write>(printer: &mut W, translated: Result<usize, Refusal>) -> io::Result<()> {
     match translated {
-        Translated::Frames(count) => print::decimal(printer, " gives frames ", count as u64),
-        Translated::Refused { number, place } => {
-            print::decimal(printer, " gives ", number as u64)?;
-            print::decimal(printer, " at ", place as u64)
+        Ok(count) => write!(printer, " gives frames {count}"),
+        Err(refusal) => {
+            let number = refusal.fault.number();
+            let place = refusal.place;
+            write!(printer, " gives {number} at {place}")
         }
     }
 }
@@ -26,5 +27,5 @@ pub fn translation<W: Write>(
     print::bytes(printer, name, recipe)?;
     answer(printer, translated)?;
     print::bytes(printer, ", output", output)?;
-    print::text(printer, "\n")
+    writeln!(printer)
 }

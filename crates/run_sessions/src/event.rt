@@ -1,126 +1,79 @@
 // One event: the record is taken apart, the call is made, and its answer written down.
-use crate::session::{CAN_FRAMES, RESTARTS, Session, UART_BYTES};
-use crate::{closing, handed, pieces, session, slices, telling};
+use crate::session::Session;
+use crate::{closing, handed, pieces, session, telling};
 use base::byte_at;
+use frame_can::Refusal;
 use memory_address::Address;
-use node_rules::{Answer, Choices, Restarted, UartAnswer};
+use node_rules::{Choices, Restarted};
+use run_stream::{lent, number, part, short};
 use std::io;
 use std::io::Write;
 
 // Restart, by pin, self-test and way.
 fn restart<W: Write>(
     printer: &mut W,
-    s: Session,
+    mut s: Session,
     rec: &[u8],
     flash: &[u8],
     eeprom: &[u8],
 ) -> io::Result<Session> {
-    let f = slices::part(flash, 0, s.flash);
-    let e = slices::part(eeprom, 0, s.eeprom);
-    let r = restart_by(s, rec, f, e);
-    restarted(printer, r, s)
+    let r = restart_by(&s, rec, part(flash, 0, s.flash), part(eeprom, 0, s.eeprom));
+    let number = match r.outcome {
+        Ok(()) => 0,
+        Err(refusal) => refusal.number(),
+    };
+    session::count(&mut s.restarts, number);
+    telling::write_node(printer, s, &[0x01, number], &[], r.node)
 }
 
 // A plain restart where nothing is said of the way and the default is meant; else the way is chosen.
-fn restart_by(s: Session, rec: &[u8], flash: &[u8], eeprom: &[u8]) -> Restarted {
+fn restart_by(s: &Session, rec: &[u8], flash: &[u8], eeprom: &[u8]) -> Restarted {
     let pin = handed::pin(byte_at(rec, 1));
     let passed = byte_at(rec, 2) == 0;
     let way = byte_at(rec, 3);
-    let node = s.node;
     if way == 0 && !s.old {
-        return node::restart(node, pin, passed, flash, eeprom);
+        return node::restart(s.node, pin, passed, flash, eeprom);
     }
     let noise = handed::way(way, s.old);
     let choices = Choices { pin, noise };
-    node::restart_with(node, choices, passed, flash, eeprom)
-}
-
-fn restarted<W: Write>(printer: &mut W, r: Restarted, s: Session) -> io::Result<Session> {
-    let node = r.node;
-    let next = session::counted(s, RESTARTS + r.number as usize);
-    telling::write_node(printer, next, &[0x01, r.number], &[], node)
+    node::restart_with(s.node, choices, passed, flash, eeprom)
 }
 
 // A CAN frame, of any length up to 1,024 bytes: the record's, then 0x55.
 fn can<W: Write>(
     printer: &mut W,
-    s: Session,
+    mut s: Session,
     rec: &[u8],
     flash: &mut [u8],
     eeprom: &mut [u8],
 ) -> io::Result<Session> {
     let mut space = [0x55u8; 1024];
-    can_in(printer, s, rec, &mut space, flash, eeprom)
-}
-
-fn can_in<W: Write>(
-    printer: &mut W,
-    s: Session,
-    rec: &[u8],
-    space: &mut [u8],
-    flash: &mut [u8],
-    eeprom: &mut [u8],
-) -> io::Result<Session> {
-    slices::append(space, 0, slices::part(rec, 3, 61));
-    let frame = slices::part(space, 0, handed::short(rec, 1) as usize);
-    can_frame(printer, s, frame, flash, eeprom)
-}
-
-fn can_frame<W: Write>(
-    printer: &mut W,
-    s: Session,
-    frame: &[u8],
-    flash: &mut [u8],
-    eeprom: &mut [u8],
-) -> io::Result<Session> {
-    let node = s.node;
-    let f = slices::lent(flash, s.flash);
-    let e = slices::lent(eeprom, s.eeprom);
-    let a = node::can_frame(node, frame, f, e);
-    can_answered(printer, a, s)
-}
-
-fn can_answered<W: Write>(printer: &mut W, a: Answer, s: Session) -> io::Result<Session> {
-    can_told(
-        printer,
-        a,
-        session::counted(s, CAN_FRAMES + a.number as usize),
-    )
-}
-
-fn can_told<W: Write>(printer: &mut W, a: Answer, s: Session) -> io::Result<Session> {
-    let replies = a.replies;
-    let node = a.node;
-    telling::write_node(printer, s, &[0x02, a.number, a.count], &replies, node)
+    base::put(&mut space, 0, part(rec, 3, 61));
+    let frame = part(&space, 0, short(rec, 1) as usize);
+    let f = lent(flash, s.flash);
+    let e = lent(eeprom, s.eeprom);
+    let a = node::can_frame(s.node, frame, f, e);
+    let (number, replies) = run_record::told(a.outcome);
+    let bytes = replies.bytes;
+    session::count(&mut s.frames, number);
+    telling::write_node(printer, s, &[0x02, number, replies.count], &bytes, a.node)
 }
 
 // A UART byte.
 fn uart<W: Write>(
     printer: &mut W,
-    s: Session,
+    mut s: Session,
     rec: &[u8],
     flash: &mut [u8],
     eeprom: &mut [u8],
 ) -> io::Result<Session> {
-    let node = s.node;
-    let f = slices::lent(flash, s.flash);
-    let e = slices::lent(eeprom, s.eeprom);
-    let a = node::uart_byte(node, byte_at(rec, 1), f, e);
-    uart_answered(printer, a, s)
-}
-
-fn uart_answered<W: Write>(printer: &mut W, a: UartAnswer, s: Session) -> io::Result<Session> {
-    uart_told(
-        printer,
-        a,
-        session::counted(s, UART_BYTES + a.number as usize),
-    )
-}
-
-fn uart_told<W: Write>(printer: &mut W, a: UartAnswer, s: Session) -> io::Result<Session> {
-    let replies = a.replies;
-    let node = a.node;
-    telling::write_node(printer, s, &[0x03, a.number, a.count], &replies, node)
+    let f = lent(flash, s.flash);
+    let e = lent(eeprom, s.eeprom);
+    let a = node::uart_byte(s.node, byte_at(rec, 1), f, e);
+    let (number, replies) = run_record::told(a.outcome);
+    let bytes = replies.bytes;
+    session::count(&mut s.bytes, number);
+    telling::write_node(printer, s, &[0x03, number, replies.count], &bytes, a.node)
 }
 
 // A row of the lent memories.
@@ -131,9 +84,9 @@ fn show<'a, W: Write>(
     flash: &'a [u8],
     eeprom: &'a [u8],
 ) -> io::Result<Session> {
-    let f = slices::part(flash, 0, s.flash);
-    let e = slices::part(eeprom, 0, s.eeprom);
-    show_lent(printer, s, handed::number(rec, 1), f, e)
+    let f = part(flash, 0, s.flash);
+    let e = part(eeprom, 0, s.eeprom);
+    show_lent(printer, s, number(rec, 1), f, e)
 }
 
 fn show_lent<'a, W: Write>(
@@ -151,33 +104,39 @@ fn show_lent<'a, W: Write>(
 
 // From this event on so many cells of each memory are lent, or as many as there are.
 fn lend(s: Session, rec: &[u8]) -> Session {
-    let flash = handed::number(rec, 1) as usize;
-    let eeprom = handed::number(rec, 5) as usize;
-    session::lending(s, flash, eeprom)
+    session::lending(s, number(rec, 1) as usize, number(rec, 5) as usize)
 }
 
 // A cell of FLASH, or of EEPROM from 0xF00000 on, becomes a value.
-fn poke(s: Session, rec: &[u8], flash: &mut [u8], eeprom: &mut [u8]) -> Session {
-    let at = handed::number(rec, 1);
-    let v = byte_at(rec, 5);
-    slices::put(flash, at as usize, v);
+fn poke(rec: &[u8], flash: &mut [u8], eeprom: &mut [u8]) {
+    let at = number(rec, 1);
+    let new = [byte_at(rec, 5)];
+    base::put(flash, at as usize, &new);
     if 0xF00000 <= at {
-        slices::put(eeprom, (at - 0xF00000) as usize, v);
+        base::put(eeprom, (at - 0xF00000) as usize, &new);
     }
-    s
 }
 
 // A new session.
 fn begin(s: Session, rec: &[u8], flash: &mut [u8], eeprom: &mut [u8]) -> Session {
-    slices::fill(flash, byte_at(rec, 1), byte_at(rec, 11), byte_at(rec, 12));
-    slices::fill(eeprom, byte_at(rec, 2), byte_at(rec, 11), byte_at(rec, 12));
+    run_stream::fill(flash, byte_at(rec, 1), byte_at(rec, 11), byte_at(rec, 12));
+    run_stream::fill(eeprom, byte_at(rec, 2), byte_at(rec, 11), byte_at(rec, 12));
     let tells = byte_at(rec, 13) != 0;
-    session::begun(s, handed::six(rec, 3), handed::short(rec, 9), tells)
+    session::begun(s, handed::six(rec, 3), short(rec, 9), tells)
 }
 
+// The closing line.
 fn end<W: Write>(printer: &mut W, s: Session, flash: &[u8], eeprom: &[u8]) -> io::Result<Session> {
-    closing::close(printer, s, flash, eeprom)?;
+    closing::close(printer, &s, flash, eeprom)?;
     Ok(s)
+}
+
+// What a conversion answers, as a number: 0 where it is done.
+fn number_of(outcome: Result<(), Refusal>) -> u8 {
+    match outcome {
+        Ok(()) => 0,
+        Err(refusal) => refusal.number(),
+    }
 }
 
 // Identifier and data to a frame.
@@ -187,76 +146,63 @@ fn to_hapcan<W: Write>(
     rec: &[u8],
     output: &mut [u8],
 ) -> io::Result<Session> {
-    let input = slices::part(rec, 7, handed::length(rec, 5));
-    let out = slices::lent(output, handed::length(rec, 6));
-    let number = frame_can::to_hapcan(handed::number(rec, 1), input, out);
-    telling::write(printer, s, &[0x0A, number], out)
+    let input = part(rec, 7, handed::length(rec, 5));
+    let out = lent(output, handed::length(rec, 6));
+    let outcome = frame_can::to_hapcan(number(rec, 1), input, out);
+    telling::write(printer, s, &[0x0A, number_of(outcome)], out)
 }
 
-// The answer's bytes before the output: kind, number, and the identifier's four.
-fn identified(number: u8, identifier: u32) -> [u8; 6] {
-    [
-        0x0B,
-        number,
-        (identifier / 16_777_216) as u8,
-        (identifier / 65_536 % 256) as u8,
-        (identifier / 256 % 256) as u8,
-        (identifier % 256) as u8,
-    ]
-}
-
-// A frame to identifier and data.
+// A frame to identifier and data. The answer's bytes before the output are kind, number, and the identifier's four, 0 where it is refused.
 fn to_can<W: Write>(
     printer: &mut W,
     s: Session,
     rec: &[u8],
     output: &mut [u8],
 ) -> io::Result<Session> {
-    let input = slices::part(rec, 3, handed::length(rec, 1));
-    let out = slices::lent(output, handed::length(rec, 2));
-    let r = frame_can::to_can(input, out);
-    let head = identified(r.number, r.identifier);
-    telling::write(printer, s, &head, out)
+    let input = part(rec, 3, handed::length(rec, 1));
+    let out = lent(output, handed::length(rec, 2));
+    let (number, identifier) = match frame_can::to_can(input, out) {
+        Ok(identifier) => (0, identifier),
+        Err(refusal) => (refusal.number(), 0),
+    };
+    let i = identifier.to_be_bytes();
+    telling::write(printer, s, &[0x0B, number, i[0], i[1], i[2], i[3]], out)
 }
 
+// A frame wrapped.
 fn wrap<W: Write>(
     printer: &mut W,
     s: Session,
     rec: &[u8],
     output: &mut [u8],
 ) -> io::Result<Session> {
-    let input = slices::part(rec, 3, handed::length(rec, 1));
-    let out = slices::lent(output, handed::length(rec, 2));
-    let number = frame_uart::wrap(input, out);
-    telling::write(printer, s, &[0x0C, number], out)
+    let input = part(rec, 3, handed::length(rec, 1));
+    let out = lent(output, handed::length(rec, 2));
+    let outcome = frame_uart::wrap(input, out);
+    telling::write(printer, s, &[0x0C, number_of(outcome)], out)
 }
 
+// A frame unwrapped.
 fn unwrap<W: Write>(
     printer: &mut W,
     s: Session,
     rec: &[u8],
     output: &mut [u8],
 ) -> io::Result<Session> {
-    let input = slices::part(rec, 3, handed::length(rec, 1));
-    let out = slices::lent(output, handed::length(rec, 2));
-    let number = frame_uart::unwrap(input, out);
-    telling::write(printer, s, &[0x0D, number], out)
+    let input = part(rec, 3, handed::length(rec, 1));
+    let out = lent(output, handed::length(rec, 2));
+    let outcome = frame_uart::unwrap(input, out);
+    telling::write(printer, s, &[0x0D, number_of(outcome)], out)
 }
 
 // What the address rule says: its number, and which memory.
 fn rule<W: Write>(printer: &mut W, s: Session, rec: &[u8]) -> io::Result<Session> {
-    let r = memory_address::rule(handed::number(rec, 1), handed::number(rec, 5));
-    match r {
-        Some(a) => ruled(printer, s, a),
-        None => telling::write(printer, s, &[0x0E, 8, 2], &[]),
-    }
-}
-
-fn ruled<W: Write>(printer: &mut W, s: Session, a: Address) -> io::Result<Session> {
-    match a {
-        Address::Flash(_) => telling::write(printer, s, &[0x0E, 0, 0], &[]),
-        Address::Eeprom(_) => telling::write(printer, s, &[0x0E, 0, 1], &[]),
-    }
+    let told = match memory_address::rule(number(rec, 1), number(rec, 5)) {
+        Some(Address::Flash(_)) => [0x0E, 0, 0],
+        Some(Address::Eeprom(_)) => [0x0E, 0, 1],
+        None => [0x0E, 8, 2],
+    };
+    telling::write(printer, s, &told, &[])
 }
 
 // A conversion, into a lent output filled with 0xEE.
@@ -301,14 +247,17 @@ fn on_session<W: Write>(
 ) -> io::Result<Session> {
     match kind {
         0x06 => Ok(lend(s, rec)),
-        0x07 => Ok(poke(s, rec, flash, eeprom)),
+        0x07 => {
+            poke(rec, flash, eeprom);
+            Ok(s)
+        }
         0x08 => Ok(begin(s, rec, flash, eeprom)),
         0x09 => end(printer, s, flash, eeprom),
         _ => Ok(s),
     }
 }
 
-// One record of the stream. A kind that is none of these is passed over.
+// One record of the stream; its first byte is the code of a kind in second/PROTOCOL.md. One that is none of these is passed over.
 pub fn event<W: Write>(
     printer: &mut W,
     s: Session,
@@ -316,21 +265,13 @@ pub fn event<W: Write>(
     flash: &mut [u8],
     eeprom: &mut [u8],
 ) -> io::Result<Session> {
-    let kind = byte_at(rec, 0);
-    if kind < 0x06 {
-        return on_node(printer, s, kind, rec, flash, eeprom);
+    match byte_at(rec, 0) {
+        kind @ 0x00..=0x05 => on_node(printer, s, kind, rec, flash, eeprom),
+        kind @ 0x06..=0x09 => on_session(printer, s, kind, rec, flash, eeprom),
+        kind @ 0x0A..=0x0D => converted(printer, s, kind, rec),
+        0x0E => rule(printer, s, rec),
+        0x11 => pieces::record(printer, s, rec, flash, eeprom),
+        0x12 => Ok(session::meaning(s, 1 < byte_at(rec, 1))),
+        _ => Ok(s),
     }
-    if kind < 0x0A {
-        return on_session(printer, s, kind, rec, flash, eeprom);
-    }
-    if kind == 0x0E {
-        return rule(printer, s, rec);
-    }
-    if kind == 0x11 {
-        return pieces::record(printer, s, rec, flash, eeprom);
-    }
-    if kind == 0x12 {
-        return Ok(session::meaning(s, 1 < byte_at(rec, 1)));
-    }
-    converted(printer, s, kind, rec)
 }

@@ -2,51 +2,19 @@
 use base::byte_at;
 use memory_address::{Address, EepromPlace, FlashAddress, Group, Module};
 use node_rules::{Choices, Mode, Node, Noise, Pin, Plate, Receiver, Staged};
-
-// The four bytes from i on as a number, high byte first.
-pub fn number(s: &[u8], i: usize) -> u32 {
-    if 60 < i {
-        return 0;
-    }
-    let first = byte_at(s, i) as u32;
-    let second = byte_at(s, i + 1) as u32;
-    let third = byte_at(s, i + 2) as u32;
-    let fourth = byte_at(s, i + 3) as u32;
-    first * 16_777_216 + second * 65_536 + third * 256 + fourth
-}
-
-// The two bytes from i on as a number, high byte first.
-pub fn short(s: &[u8], i: usize) -> u32 {
-    if 60 < i {
-        return 0;
-    }
-    let first = byte_at(s, i) as u32;
-    let second = byte_at(s, i + 1) as u32;
-    first * 256 + second
-}
+use run_stream::{number, part};
 
 // A length at place i: more than 20 counts as 20.
 pub fn length(s: &[u8], i: usize) -> usize {
-    let n = byte_at(s, i) as usize;
-    if n < 20 {
-        return n;
-    }
-    20
+    byte_at(s, i).min(20) as usize
 }
 
 // The six bytes from i on.
 pub fn six(s: &[u8], i: usize) -> [u8; 6] {
-    if 58 < i {
-        return [0; 6];
+    match part(s, i, 6).first_chunk() {
+        Some(six) => *six,
+        None => [0; 6],
     }
-    [
-        byte_at(s, i),
-        byte_at(s, i + 1),
-        byte_at(s, i + 2),
-        byte_at(s, i + 3),
-        byte_at(s, i + 4),
-        byte_at(s, i + 5),
-    ]
 }
 
 // 0 says CAN only, anything else CAN and UART.
@@ -59,16 +27,10 @@ pub fn pin(b: u8) -> Pin {
 
 // The way after noise: 1 the new one, more the old one; 0 says nothing, and then the old way counts where it is meant, and else the new one.
 pub fn way(b: u8, old: bool) -> Noise {
-    if b == 0 {
-        if old {
-            return Noise::DropAll;
-        }
-        return Noise::KeepFromNext;
+    match (b, old) {
+        (0, false) | (1, _) => Noise::KeepFromNext,
+        _ => Noise::DropAll,
     }
-    if b == 1 {
-        return Noise::KeepFromNext;
-    }
-    Noise::DropAll
 }
 
 // The address as its kind says: 0 FLASH, else EEPROM.
@@ -100,23 +62,10 @@ fn mode(m: u8, s: u8, kind: u8, a: u32) -> Mode {
 
 // The 14 held bytes, from the record's tenth argument on, and a fifteenth that stands behind the record.
 fn held(s: &[u8]) -> [u8; 15] {
-    [
-        byte_at(s, 11),
-        byte_at(s, 12),
-        byte_at(s, 13),
-        byte_at(s, 14),
-        byte_at(s, 15),
-        byte_at(s, 16),
-        byte_at(s, 17),
-        byte_at(s, 18),
-        byte_at(s, 19),
-        byte_at(s, 20),
-        byte_at(s, 21),
-        byte_at(s, 22),
-        byte_at(s, 23),
-        byte_at(s, 24),
-        byte_at(s, 36),
-    ]
+    let mut held = [0; 15];
+    base::put(&mut held, 0, part(s, 11, 14));
+    held[14] = byte_at(s, 36);
+    held
 }
 
 // The count of held bytes: its low byte, and the number above it.

@@ -7,15 +7,12 @@ mod event;
 mod handed;
 mod pieces;
 mod session;
-mod slices;
 mod telling;
 
+use run_stream::RECORD;
 use session::Session;
 use std::io;
 use std::io::{BufWriter, Read, Write};
-
-// The bytes of a record.
-const RECORD: usize = 64;
 
 // The records that stand whole in a piece of the stream, one after the other.
 fn piece<W: Write>(
@@ -26,35 +23,13 @@ fn piece<W: Write>(
     eeprom: &mut [u8],
 ) -> io::Result<Session> {
     let mut now = s;
-    for i in 0..bytes.len() / RECORD {
-        now = event::event(
-            printer,
-            now,
-            slices::part(bytes, RECORD * i, RECORD),
-            flash,
-            eeprom,
-        )?;
+    for record in bytes.chunks_exact(RECORD) {
+        now = event::event(printer, now, record, flash, eeprom)?;
     }
     Ok(now)
 }
 
-// Reads a piece of 1,024 records, the last one shorter. Where nothing is left to read the session is done.
-fn turn<R: Read, W: Write>(
-    input: &mut R,
-    printer: &mut W,
-    s: Session,
-    space: &mut [u8],
-    flash: &mut [u8],
-    eeprom: &mut [u8],
-) -> io::Result<Session> {
-    let n = run_stream::read_full(input, space)?;
-    if n == 0 {
-        return Ok(session::ended(s));
-    }
-    piece(printer, s, &space[..n], flash, eeprom)
-}
-
-// The whole stream. A loop has to end, so turns are counted, up to a number that no stream uses up.
+// The whole stream, in pieces of 1,024 records.
 fn stream<R: Read, W: Write>(
     input: &mut R,
     printer: &mut W,
@@ -63,13 +38,10 @@ fn stream<R: Read, W: Write>(
     eeprom: &mut [u8],
 ) -> io::Result<()> {
     let mut s = session::start();
-    for _ in 0..0xFFFFFFFFu32 {
-        if s.done {
-            return Ok(());
-        }
-        s = turn(input, printer, s, space, flash, eeprom)?;
-    }
-    Ok(())
+    run_stream::each_piece(input, space, |_, bytes| {
+        s = piece(printer, s, bytes, flash, eeprom)?;
+        Ok(())
+    })
 }
 
 fn main(rt: HostRuntime) -> io::Result<()> {

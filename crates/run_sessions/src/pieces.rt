@@ -1,48 +1,33 @@
 // UART pieces: the calls of one record, one behind the other.
-use crate::session::{Session, UART_PIECES};
-use crate::{session, slices, telling};
+use crate::session::Session;
+use crate::{session, telling};
 use base::byte_at;
 use node_piece_rules::PieceAnswer;
-use node_rules::UartAnswer;
+use run_stream::{lent, part};
 use std::io;
 use std::io::Write;
 
-// The session after a call with this answer, and so many bytes taken.
-fn answered<W: Write>(
-    printer: &mut W,
-    a: UartAnswer,
-    taken: usize,
-    s: Session,
-) -> io::Result<Session> {
-    told(
+// The session after a call with this answer.
+fn answered<W: Write>(printer: &mut W, mut s: Session, p: PieceAnswer) -> io::Result<Session> {
+    let a = p.answer;
+    let (number, replies) = run_record::told(a.outcome);
+    let bytes = replies.bytes;
+    session::count(&mut s.pieces, number);
+    let taken = (p.taken % 256) as u8;
+    telling::write_node(
         printer,
-        a,
-        taken,
-        session::counted(s, UART_PIECES + a.number as usize),
+        s,
+        &[0x11, number, taken, replies.count],
+        &bytes,
+        a.node,
     )
 }
 
-fn told<W: Write>(printer: &mut W, a: UartAnswer, taken: usize, s: Session) -> io::Result<Session> {
-    let replies = a.replies;
-    let node = a.node;
-    let low = (taken % 256) as u8;
-    telling::write_node(printer, s, &[0x11, a.number, low, a.count], &replies, node)
-}
-
-// One call: so many of the bytes that the ring still holds behind those that are taken.
-fn call(
-    s: Session,
-    length: u8,
-    ring: &[u8],
-    taken: usize,
-    flash: &mut [u8],
-    eeprom: &mut [u8],
-) -> PieceAnswer {
-    let node = s.node;
-    let f = slices::lent(flash, s.flash);
-    let e = slices::lent(eeprom, s.eeprom);
-    let piece = slices::part(ring, taken, length as usize);
-    node::uart_piece(node, piece, f, e)
+// One call: so many of the bytes that the ring still holds.
+fn call(s: &Session, length: u8, ring: &[u8], flash: &mut [u8], eeprom: &mut [u8]) -> PieceAnswer {
+    let f = lent(flash, s.flash);
+    let e = lent(eeprom, s.eeprom);
+    node::uart_piece(s.node, part(ring, 0, length as usize), f, e)
 }
 
 // A call for each of the lengths. The bytes that one takes leave the ring.
@@ -55,12 +40,11 @@ fn calls<W: Write>(
     eeprom: &mut [u8],
 ) -> io::Result<Session> {
     let mut now = s;
-    let mut done: usize = 0;
+    let mut left = ring;
     for length in lengths {
-        let p = call(now, *length, ring, done, flash, eeprom);
-        let a = p.answer;
-        now = answered(printer, a, p.taken, now)?;
-        done += slices::least(p.taken, ring.len() - done);
+        let p = call(&now, *length, left, flash, eeprom);
+        now = answered(printer, now, p)?;
+        left = &left[p.taken.min(left.len())..];
     }
     Ok(now)
 }
@@ -73,7 +57,7 @@ pub fn record<W: Write>(
     flash: &mut [u8],
     eeprom: &mut [u8],
 ) -> io::Result<Session> {
-    let ring = slices::part(rec, 19, slices::least(byte_at(rec, 1) as usize, 44));
-    let lengths = slices::part(rec, 3, slices::least(byte_at(rec, 2) as usize, 16));
+    let ring = part(rec, 19, byte_at(rec, 1).min(44) as usize);
+    let lengths = part(rec, 3, byte_at(rec, 2).min(16) as usize);
     calls(printer, s, lengths, ring, flash, eeprom)
 }

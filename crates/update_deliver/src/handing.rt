@@ -27,6 +27,7 @@ pub fn hand_over(
         ≡ handed_over count frames.now node flash.old eeprom.old answers.old }
 {
     let mut n = node;
+    // A range: frames of 12 bytes and answers of 14 lie beside each other by the same number.
     for i in 0..count {
         let at = 12 * i;
         let to = 14 * i;

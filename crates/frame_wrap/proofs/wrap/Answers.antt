@@ -1,6 +1,7 @@
 -- `frame_wrap::wrap` meets its contract: the output is start, bytes, sum and stop, each stored at its place.
 -- Assumes nothing.
-use Rattle.std.proofs.Common.{◌≡◌, ℕ, List, [], ◌∷◌, ◌++◌, length, drop, refl, ap, arith, length-drop}
+use Rattle.std.proofs.Common.{◌≡◌, ℕ, ◌%◌, List, [], ◌∷◌, ◌++◌, ◌∙◌, length, drop, refl, ap, arith, length-drop}
+use Rattle.base.specs.Parts.{sum_of}
 use Rattle.std.proofs.Math.ListN.{set}
 use Rattle.std.proofs.lemmas.Grind.{common_steps}
 use Rattle.std.proofs.lemmas.List.{set-append_right}
@@ -30,5 +31,9 @@ laid (y ∷ w) f a s t l k = ap (λ (x : List ℕ). a ∷ x) (ends f (drop 12 w)
 pub returns : goal.returns
 unfolding wrap_number wrapped_of
 returns c =
-    let e = laid c.args.wrapped.now c.args.frame.now 0xAA c.sum_of.result 0xA5 in
-    grind (arith, common_steps, e)
+    let w = c.if-wrapped-ne15.false in
+    let t : (c.in_ok-inner.inner ≡ c.args.frame.now) × (length c.args.frame.now ≡ 12) = grind (arith, common_steps) in
+    let f : c.copy_from_slice.new.self ≡ c.args.frame.now = grind (arith, common_steps) in
+    let e = laid c.args.wrapped.now c.args.frame.now 0xAA c.sum_of.result 0xA5 w t.1 in
+    let s : c.sum_of.result ≡ sum_of c.args.frame.now % 256 = rw t.0 at c.sum_of.ensures in
+    (rw (w, t.1), rw f (e ∙ ap (λ (x : ℕ). 0xAA ∷ (c.args.frame.now ++ x ∷ 0xA5 ∷ [])) s))

@@ -1,5 +1,5 @@
 -- The node's record as bytes: second/PROTOCOL.md, "NODE is 31 bytes", its fields in its order. Any record has them.
-use Rattle.std.specs.Prelude.{ℕ, ◌/◌, ◌%◌, cond, List, [], ◌∷◌, ◌++◌, take}
+use Rattle.std.specs.Prelude.{ℕ, ◌/◌, ◌%◌, cond, List, [], ◌∷◌, ◌++◌, take, replicate, Result, Ok, Err}
 use Rattle.memory_address.specs.declared.Address.{Address}
 use Rattle.memory_address.specs.declared.Address.TheVariants.{Flash, Eeprom}
 use Rattle.node_rules.specs.declared.Pin.{Pin}
@@ -9,7 +9,10 @@ use Rattle.node_rules.specs.declared.Staged.TheVariants.{Nothing, Read, Write, E
 use Rattle.node_rules.specs.declared.Mode.{Mode}
 use Rattle.node_rules.specs.declared.Mode.TheVariants.{Normal, Programming, Error, Waiting}
 use Rattle.node_rules.specs.declared.Node.{Node}
+use Rattle.node_rules.specs.declared.Refusal.{Refusal}
+use Rattle.node_rules.specs.declared.Replies.{Replies}
 use Rattle.node_rules.specs.Requests.{staged_in}
+use Rattle.node_rules.specs.InNumbers.{refusal_number}
 
 -- "pin (0 CAN only, 1 CAN and UART)"
 abbrev pub pin_byte : Pin → ℕ
@@ -68,3 +71,8 @@ node_bytes n =
     pin_byte n.choices.pin ∷
     (n.plate.fixed ++ (n.plate.own.0 ∷ n.plate.group.0 ∷ n.receiver.count % 256 ∷
     (take 14 n.receiver.held ++ mode_bytes n.mode)))
+
+-- "number, count of replies" and the reply bytes, "unused ones 0": of a refusal its number, and n bytes 0
+abbrev pub told_of : (n : ℕ) → Result (Replies n) Refusal → ℕ × Replies n
+told_of n (Ok replies) = (0, replies)
+told_of n (Err refusal) = (refusal_number refusal, record { count = 0; bytes = replicate n 0 })
