@@ -2,8 +2,9 @@
 use crate::hand::Handed;
 use crate::header::Header;
 use crate::line::Line;
-use crate::{hand, pieces, start};
+use crate::{hand, start};
 use recipe::Refusal;
+use run_stream::part;
 
 // The line of a refusal.
 fn refused(refusal: Refusal, output: &[u8]) -> Line {
@@ -49,23 +50,7 @@ fn done(count: usize, output: &[u8], h: Handed, flash: &[u8], eeprom: &[u8]) -> 
     }
 }
 
-// The frames of an output, handed to this node: in pieces where the header says how long those are on UART, else one by one.
-fn frames(
-    first: Handed,
-    h: Header,
-    count: usize,
-    output: &[u8],
-    serial: &mut [u8],
-    flash: &mut [u8],
-    eeprom: &mut [u8],
-) -> Handed {
-    if h.port != 0 && h.piece != 0 {
-        return pieces::frames(first, h.piece, output, count, serial, flash, eeprom);
-    }
-    hand::frames(first, h.port, output, count, flash, eeprom)
-}
-
-// The frames of an output, handed to a node over memories that are prepared for them.
+// The first `count` frames of an output, handed to a node over memories that are prepared for them.
 fn hand_over(
     h: Header,
     count: usize,
@@ -76,7 +61,8 @@ fn hand_over(
 ) -> Line {
     prepare(h, flash, eeprom);
     let first = started(h, flash, eeprom);
-    let last = frames(first, h, count, output, serial, flash, eeprom);
+    let frames = part(output, 0, count.saturating_mul(12));
+    let last = hand::over(first, h.port, frames, serial, flash, eeprom);
     done(count, output, last, flash, eeprom)
 }
 

@@ -1,4 +1,6 @@
 // Frames handed to a node, and the digest of its answers.
+use crate::header::Port;
+use crate::pieces;
 use node_rules::{Answer, Node};
 
 // The node after what was handed over so far, and the digest of the answers.
@@ -39,22 +41,35 @@ fn on_uart(h: Handed, frame: &[u8], flash: &mut [u8], eeprom: &mut [u8]) -> Hand
     now
 }
 
-// The first `count` frames of an output, on this port: 0 CAN, else UART.
-pub fn frames(
+// These frames, one by one, each handed over by this call.
+fn each<F: Fn(Handed, &[u8], &mut [u8], &mut [u8]) -> Handed>(
     first: Handed,
-    port: u8,
-    output: &[u8],
-    count: usize,
+    frames: &[u8],
+    flash: &mut [u8],
+    eeprom: &mut [u8],
+    call: F,
+) -> Handed
+    requires { F.IsAlwaysCallable call }
+{
+    let mut now = first;
+    for frame in frames.chunks_exact(12) {
+        now = call(now, frame, flash, eeprom);
+    }
+    now
+}
+
+// These frames on this port. On UART in pieces, their bytes stand in `serial` meanwhile.
+pub fn over(
+    first: Handed,
+    port: Port,
+    frames: &[u8],
+    serial: &mut [u8],
     flash: &mut [u8],
     eeprom: &mut [u8],
 ) -> Handed {
-    let mut now = first;
-    for frame in output.chunks_exact(12).take(count) {
-        now = if port == 0 {
-            on_can(now, frame, flash, eeprom)
-        } else {
-            on_uart(now, frame, flash, eeprom)
-        };
+    match port {
+        Port::Can => each(first, frames, flash, eeprom, on_can),
+        Port::Bytes => each(first, frames, flash, eeprom, on_uart),
+        Port::Pieces(size) => pieces::frames(first, size, frames, serial, flash, eeprom),
     }
-    now
 }

@@ -35,7 +35,7 @@ fn handle<R: Read, W: Write>(
 }
 
 // The whole stream: a header, and the recipe behind it; or a record that says which way after noise is meant from there on where nothing is
-// said of it.
+// said of it. Each program of a stream has buffers of its own: one loop for all is no plainer.
 fn stream<R: Read, W: Write>(
     input: &mut R,
     printer: &mut W,

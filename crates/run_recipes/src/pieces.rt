@@ -3,15 +3,14 @@ use crate::hand;
 use crate::hand::Handed;
 use run_stream::part;
 
-// The first `count` frames of an output, wrapped one behind the other.
-fn wrap_all(output: &[u8], count: usize, serial: &mut [u8]) {
-    let frames = output.chunks_exact(12).take(count);
-    for (frame, wrapped) in frames.zip(serial.chunks_exact_mut(15)) {
+// These frames, wrapped one behind the other.
+fn wrap_all(frames: &[u8], serial: &mut [u8]) {
+    for (frame, wrapped) in frames.chunks_exact(12).zip(serial.chunks_exact_mut(15)) {
         let _ = frame_uart::wrap(frame, wrapped);
     }
 }
 
-// Pieces of so many bytes, until no byte is left or none is taken.
+// Pieces of so many bytes, until no byte is left or none is taken. A while: the node says how many bytes it took.
 fn pieces(h: Handed, size: u16, bytes: &[u8], flash: &mut [u8], eeprom: &mut [u8]) -> Handed {
     let mut now = h;
     let mut left = bytes;
@@ -27,17 +26,16 @@ fn pieces(h: Handed, size: u16, bytes: &[u8], flash: &mut [u8], eeprom: &mut [u8
     now
 }
 
-// The first `count` frames of an output, in pieces of so many bytes. Their bytes stand in `serial` meanwhile.
+// These frames, in pieces of so many bytes. Their bytes stand in `serial` meanwhile.
 pub fn frames(
     h: Handed,
     size: u16,
-    output: &[u8],
-    count: usize,
+    frames: &[u8],
     serial: &mut [u8],
     flash: &mut [u8],
     eeprom: &mut [u8],
 ) -> Handed {
-    wrap_all(output, count, serial);
-    let bytes = part(serial, 0, count.saturating_mul(15));
+    wrap_all(frames, serial);
+    let bytes = part(serial, 0, (frames.len() / 12).saturating_mul(15));
     pieces(h, size, bytes, flash, eeprom)
 }

@@ -104,7 +104,7 @@ fn show_lent<'a, W: Write>(
 
 // From this event on so many cells of each memory are lent, or as many as there are.
 fn lend(s: Session, rec: &[u8]) -> Session {
-    session::lending(s, number(rec, 1) as usize, number(rec, 5) as usize)
+    s.lending(number(rec, 1) as usize, number(rec, 5) as usize)
 }
 
 // A cell of FLASH, or of EEPROM from 0xF00000 on, becomes a value.
@@ -122,7 +122,7 @@ fn begin(s: Session, rec: &[u8], flash: &mut [u8], eeprom: &mut [u8]) -> Session
     run_stream::fill(flash, byte_at(rec, 1), byte_at(rec, 11), byte_at(rec, 12));
     run_stream::fill(eeprom, byte_at(rec, 2), byte_at(rec, 11), byte_at(rec, 12));
     let tells = byte_at(rec, 13) != 0;
-    session::begun(s, handed::six(rec, 3), short(rec, 9), tells)
+    s.begun(handed::six(rec, 3), short(rec, 9), tells)
 }
 
 // The closing line.
@@ -131,7 +131,7 @@ fn end<W: Write>(printer: &mut W, s: Session, flash: &[u8], eeprom: &[u8]) -> io
     Ok(s)
 }
 
-// What a conversion answers, as a number: 0 where it is done.
+// What a conversion answers, as a number: 0 where it is done. run_samples has the same three lines: no crate below both is for runs alone.
 fn number_of(outcome: Result<(), Refusal>) -> u8 {
     match outcome {
         Ok(()) => 0,
@@ -169,30 +169,20 @@ fn to_can<W: Write>(
     telling::write(printer, s, &[0x0B, number, i[0], i[1], i[2], i[3]], out)
 }
 
-// A frame wrapped.
-fn wrap<W: Write>(
+// A frame wrapped or unwrapped, by this call.
+fn on_uart<W: Write, F: Fn(&[u8], &mut [u8]) -> Result<(), Refusal>>(
     printer: &mut W,
     s: Session,
     rec: &[u8],
     output: &mut [u8],
-) -> io::Result<Session> {
+    call: F,
+) -> io::Result<Session>
+    requires { F.IsAlwaysCallable call }
+{
     let input = part(rec, 3, handed::length(rec, 1));
     let out = lent(output, handed::length(rec, 2));
-    let outcome = frame_uart::wrap(input, out);
-    telling::write(printer, s, &[0x0C, number_of(outcome)], out)
-}
-
-// A frame unwrapped.
-fn unwrap<W: Write>(
-    printer: &mut W,
-    s: Session,
-    rec: &[u8],
-    output: &mut [u8],
-) -> io::Result<Session> {
-    let input = part(rec, 3, handed::length(rec, 1));
-    let out = lent(output, handed::length(rec, 2));
-    let outcome = frame_uart::unwrap(input, out);
-    telling::write(printer, s, &[0x0D, number_of(outcome)], out)
+    let outcome = call(input, out);
+    telling::write(printer, s, &[byte_at(rec, 0), number_of(outcome)], out)
 }
 
 // What the address rule says: its number, and which memory.
@@ -211,8 +201,8 @@ fn converted<W: Write>(printer: &mut W, s: Session, kind: u8, rec: &[u8]) -> io:
     match kind {
         0x0A => to_hapcan(printer, s, rec, &mut output),
         0x0B => to_can(printer, s, rec, &mut output),
-        0x0C => wrap(printer, s, rec, &mut output),
-        0x0D => unwrap(printer, s, rec, &mut output),
+        0x0C => on_uart(printer, s, rec, &mut output, frame_uart::wrap),
+        0x0D => on_uart(printer, s, rec, &mut output, frame_uart::unwrap),
         _ => Ok(s),
     }
 }
@@ -231,7 +221,7 @@ fn on_node<W: Write>(
         0x02 => can(printer, s, rec, flash, eeprom),
         0x03 => uart(printer, s, rec, flash, eeprom),
         0x04 => show(printer, s, rec, flash, eeprom),
-        0x05 => Ok(session::with_node(s, handed::node(rec, s.old))),
+        0x05 => Ok(s.with_node(handed::node(rec, s.old))),
         _ => Ok(s),
     }
 }
@@ -257,7 +247,8 @@ fn on_session<W: Write>(
     }
 }
 
-// One record of the stream; its first byte is the code of a kind in second/PROTOCOL.md. One that is none of these is passed over.
+// One record of the stream; its first byte is the code of a kind in second/PROTOCOL.md. One that is none of these is passed over. The codes
+// are matched in three parts, since a function has a dozen returns at most; an enum of 16 kinds would name each code once more.
 pub fn event<W: Write>(
     printer: &mut W,
     s: Session,
@@ -271,7 +262,7 @@ pub fn event<W: Write>(
         kind @ 0x0A..=0x0D => converted(printer, s, kind, rec),
         0x0E => rule(printer, s, rec),
         0x11 => pieces::record(printer, s, rec, flash, eeprom),
-        0x12 => Ok(session::meaning(s, 1 < byte_at(rec, 1))),
+        0x12 => Ok(s.meaning(1 < byte_at(rec, 1))),
         _ => Ok(s),
     }
 }

@@ -40,42 +40,47 @@ pub fn start() -> Session {
     }
 }
 
-// The next session, with these fixed bytes and so many lines in full, whose answers tell the way or not.
-pub fn begun(s: Session, fixed: [u8; 6], full: u16, tells: bool) -> Session {
-    Session {
-        number: s.number.wrapping_add(1),
-        events: 0,
-        digest: 0,
-        full,
-        flash: 65536,
-        eeprom: 1024,
-        node: node::fresh(fixed),
-        restarts: [0; 2],
-        frames: [0; 12],
-        bytes: [0; 12],
-        pieces: [0; 12],
-        tells,
-        old: s.old,
+impl Session {
+    // The next session, with these fixed bytes and so many lines in full, whose answers tell the way or not.
+    pub fn begun(self, fixed: [u8; 6], full: u16, tells: bool) -> Session {
+        Session {
+            number: self.number.wrapping_add(1),
+            full,
+            node: node::fresh(fixed),
+            tells,
+            old: self.old,
+            ..start()
+        }
     }
-}
 
-// The session in which the old way is meant, or not, where nothing is said of it.
-pub fn meaning(mut s: Session, old: bool) -> Session {
-    s.old = old;
-    s
-}
+    // The session in which the old way is meant, or not, where nothing is said of it.
+    pub fn meaning(self, old: bool) -> Session {
+        Session { old, ..self }
+    }
 
-// The session with this node.
-pub fn with_node(mut s: Session, n: Node) -> Session {
-    s.node = n;
-    s
-}
+    // The session with this node.
+    pub fn with_node(self, node: Node) -> Session {
+        Session { node, ..self }
+    }
 
-// The session with so many cells lent.
-pub fn lending(mut s: Session, flash: usize, eeprom: usize) -> Session {
-    s.flash = flash;
-    s.eeprom = eeprom;
-    s
+    // The session with so many cells lent.
+    pub fn lending(self, flash: usize, eeprom: usize) -> Session {
+        Session {
+            flash,
+            eeprom,
+            ..self
+        }
+    }
+
+    // One more event that had an answer, with the digest after it, and one line in full less.
+    pub fn answered(self, digest: u64) -> Session {
+        Session {
+            events: self.events.wrapping_add(1),
+            digest,
+            full: self.full.saturating_sub(1),
+            ..self
+        }
+    }
 }
 
 // One more that gave this number.
@@ -84,12 +89,4 @@ pub fn count<const N: usize>(counts: &mut [u64; N], number: u8) {
     if i < N {
         counts[i] = counts[i].wrapping_add(1);
     }
-}
-
-// One more event that had an answer, with the digest after it, and one line in full less.
-pub fn answered(mut s: Session, digest: u64) -> Session {
-    s.events = s.events.wrapping_add(1);
-    s.digest = digest;
-    s.full = s.full.saturating_sub(1);
-    s
 }

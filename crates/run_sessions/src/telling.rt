@@ -1,5 +1,4 @@
 // Answers written down: into the digest, and as a line in full where the session still prints those.
-use crate::session;
 use crate::session::Session;
 use node_rules::{Node, Noise};
 use std::io;
@@ -20,17 +19,10 @@ pub fn write<W: Write>(
     head: &[u8],
     last: &[u8],
 ) -> io::Result<Session> {
-    if 0 < s.full {
-        print(printer, head)?;
-        print(printer, last)?;
-        writeln!(printer)?;
-    }
-    let digest = run_digest::with_bytes(s.digest, head);
-    let digest = run_digest::with_bytes(digest, last);
-    Ok(session::answered(s, digest))
+    write_four(printer, s, head, &[], &[], last)
 }
 
-// The same in four pieces.
+// The same in four pieces. Tried: `&[&[u8]]` for them, of whose several lifetimes the borrow checker says that it doesn't cover them.
 fn write_four<W: Write>(
     printer: &mut W,
     s: Session,
@@ -50,7 +42,7 @@ fn write_four<W: Write>(
     let digest = run_digest::with_bytes(digest, second);
     let digest = run_digest::with_bytes(digest, third);
     let digest = run_digest::with_bytes(digest, last);
-    Ok(session::answered(s, digest))
+    Ok(s.answered(digest))
 }
 
 // The way after noise: 1 the new one, 2 the old one.
@@ -75,7 +67,7 @@ pub fn write_node<W: Write>(
     let choices = n.choices;
     let last = [held[14], way_byte(choices.noise)];
     let record = run_record::bytes_of(n);
-    let next = session::with_node(s, n);
+    let next = s.with_node(n);
     if s.tells {
         return write_four(printer, next, head, replies, &record, &last);
     }
