@@ -2,17 +2,10 @@
 #![tactic(auto)]
 
 ghost use Rattle.std.specs.Prelude.{◌≡◌, ◌≤◌, ◌+◌, ◌*◌, length};
-ghost use Rattle.base.specs.Parts.{sum_of, high_first};
+ghost use Rattle.base.specs.Parts.{sum_of};
 ghost use Rattle.memory_sum.specs.Sum.{firmware_sum, stored_sum_of};
 
 use memory_address::{FIRST_SUMMED, FLASH_CELLS, PAST_SUMMED, STORED_SUM};
-
-// Three bytes as a number, high byte first.
-fn high_first(a: u8, b: u8, c: u8) -> u32
-    ensures { result ≡ high_first a b c }
-{
-    u32::from_be_bytes([0, a, b, c])
-}
 
 // A sum with the cells of a part added to it, singly.
 fn added_singly(sum: u32, s: &[u8]) -> u32
@@ -26,7 +19,7 @@ fn added_singly(sum: u32, s: &[u8]) -> u32
     all
 }
 
-// The sum of the cells of a part: eight cells a turn, the remainder singly.
+// The sum of the cells of a part: eight cells a turn, the remainder singly, as request A3 says (docs/BENCH.md, "The firmware sum").
 fn sum_of(s: &[u8]) -> u32
     requires { length s.now ≤ 65536 }
     ensures { (result ≡ sum_of s.now) × (result ≤ 255 * length s.now) }
@@ -40,6 +33,7 @@ fn sum_of(s: &[u8]) -> u32
     added_singly(sum, remainder)
 }
 
+// A number and no Option in both sums: `firmware_sum` and `stored_sum_of` of specs say 0 where FLASH has another length.
 // The firmware sum: all cells 0x001003 to 0x007FFF. It never passes 24 bits. 0 where FLASH has another length than 65,536.
 pub fn firmware_sum(flash: &[u8]) -> u32
     ensures { (result ≡ firmware_sum flash.now) × (result ≤ 7310595) }
@@ -60,5 +54,5 @@ pub fn stored_sum(flash: &[u8]) -> u32
         return 0;
     }
     let at = STORED_SUM.0 as usize;
-    high_first(flash[at], flash[at + 1], flash[at + 2])
+    u32::from_be_bytes([0, flash[at], flash[at + 1], flash[at + 2]])
 }
