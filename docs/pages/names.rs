@@ -301,7 +301,7 @@ fn equals(tokens: &[Token]) -> Option<usize> {
 
 /// Types that the code has of itself.
 const PLAIN_TYPES: &[&str] =
-    &["u8", "u16", "u32", "u64", "usize", "i32", "i64", "bool", "const", "struct", "enum", "Self"];
+    &["u8", "u16", "u32", "u64", "usize", "i32", "i64", "bool", "const", "struct", "enum", "Self", "Option", "Result"];
 
 /// What a struct, enum, constant or contract names.
 pub fn in_code(repo: &Repo, file: &str, at: usize) -> Result<Found, String> {

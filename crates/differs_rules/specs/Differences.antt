@@ -1,7 +1,6 @@
 -- What becomes of a recipe over an image, in numbers: how many erases the shorter recipe has and how many bytes, or the refusal's number and
 -- the place it names. And what the code answers, in those numbers.
 use Rattle.std.specs.Prelude.{ℕ, Result, Ok, Err}
-use Rattle.recipe.specs.declared.Refusal as recipe
 use Rattle.recipe.specs.Translation as translation
 use Rattle.differs_rules.specs.declared.Fault as fault
 use Rattle.differs_rules.specs.declared.Fault.TheVariants.{Recipe, OtherLength}
@@ -20,7 +19,3 @@ fault_number OtherLength = 36
 abbrev pub in_numbers : Result kept.Kept Refusal → Differences
 in_numbers (Ok k) = Kept k.erases k.size
 in_numbers (Err r) = Refused (fault_number r.fault) r.place
-
--- a refusal of the translator's is one over any image, at its place
-abbrev pub of_recipe : recipe.Refusal → Refusal
-of_recipe r = record { fault = Recipe r.fault; place = r.place }

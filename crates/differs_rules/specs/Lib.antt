@@ -4,3 +4,4 @@ pub mod Writing
 pub mod Turns
 pub mod Pairs
 pub mod Examples
+pub mod Internal

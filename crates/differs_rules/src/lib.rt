@@ -3,7 +3,8 @@
 #![tactic(auto)]
 
 ghost use Rattle.std.specs.Prelude.{◌≡◌};
-ghost use Rattle.differs_rules.specs.Differences.{fault_number, of_recipe};
+ghost use Rattle.differs_rules.specs.Differences.{fault_number};
+ghost use Rattle.differs_rules.specs.Internal.OfRecipe.{of_recipe};
 
 // What is kept of a recipe over an image: how many erases the shorter recipe has, and how many bytes.
 #[derive(Clone, Copy, PartialEq, Eq)]

@@ -172,6 +172,15 @@ eeprom_within a command h =
 pub no_eeprom_erase : (a : ℕ) → legal_eeprom a 0x03 ≡ false
 no_eeprom_erase a = rw (erase_ruled a) (no_eeprom_block a)
 
+-- a command other than read, write and erase is legal nowhere, and on EEPROM neither is an erase
+pub no_other_flash : (a command : ℕ) → (command ≡ 0x01 → ⊥) → (command ≡ 0x02 → ⊥) → (command ≡ 0x03 → ⊥) → legal_flash a command ≡ false
+no_other_flash a command r w b =
+    by_command (λ (x : Option Address). is_flash x ≡ false) a command (λ e. absurd (r e)) (λ e. absurd (w e)) (λ e. absurd (b e)) refl
+
+pub no_other_eeprom : (a command : ℕ) → (command ≡ 0x01 → ⊥) → (command ≡ 0x02 → ⊥) → legal_eeprom a command ≡ false
+no_other_eeprom a command r w =
+    by_command (λ (x : Option Address). is_eeprom x ≡ false) a command (λ e. absurd (r e)) (λ e. absurd (w e)) (λ _. no_eeprom_block a) refl
+
 -- the eight rows of a block that may be erased may be written
 pub block_rows : (a i : ℕ) → legal_flash a 0x03 ≡ true → i < 8 → legal_flash (a + 8 * i) 0x02 ≡ true
 block_rows a i h l = rw (write_ruled (a + 8 * i)) (block_writable a i (rw (erase_ruled a) at h) l)

@@ -7,7 +7,7 @@ ghost use Rattle.std.specs.Prelude.{◌≡◌};
 ghost use Rattle.frame_rules.specs.Frame.{type_of};
 ghost use Rattle.node_rules.specs.Requests.{found};
 ghost use Rattle.node_rules.specs.Outcomes.{unless, type_outcomes, asked_of, decided};
-ghost use Rattle.node_rules.specs.InNumbers.{effect_in_numbers};
+ghost use Rattle.node_rules.specs.Internal.Effects.{effect_in_numbers};
 
 use node_rules::{Deed, Node, Refusal};
 

@@ -5,7 +5,8 @@ ghost use Rattle.std.specs.Prelude.{◌≡◌, not, [], ◌∷◌};
 ghost use Rattle.memory_address.specs.Rule.{is_legal};
 ghost use Rattle.node_rules.specs.Requests.{D, address_in, ruled_in, command_at, staged_by, staged_in, does, doing, asked};
 ghost use Rattle.node_rules.specs.Outcomes.{outcome, afterwards, unless, is_nothing, request_outcomes};
-ghost use Rattle.node_rules.specs.InNumbers.{refusal_number, effect_in_numbers};
+ghost use Rattle.node_rules.specs.InNumbers.{refusal_number};
+ghost use Rattle.node_rules.specs.Internal.Effects.{effect_in_numbers};
 
 use memory_address::Address;
 use node_rules::{Deed, Memory, Mode, Next, Refusal, Reply, Request, Staged};

@@ -8,7 +8,8 @@ use Rattle.node_rules.specs.declared.Replies.{Replies}
 use Rattle.node_rules.specs.declared.Answer.{Answer as Handed}
 use Rattle.node_rules.specs.declared.Restarted.{Restarted as Restart}
 use Rattle.node_rules.specs.Numbered.{Effect, Answer, UartAnswer, Restarted}
-use Rattle.node_rules.specs.InNumbers.{refusal_number, effect_in_numbers, outcome_in_numbers, answer_in_numbers, uart_outcome_in_numbers, uart_in_numbers, outcome_number, restarted_in_numbers}
+use Rattle.node_rules.specs.Internal.Effects.{effect_in_numbers}
+use Rattle.node_rules.specs.InNumbers.{refusal_number, outcome_in_numbers, answer_in_numbers, uart_outcome_in_numbers, uart_in_numbers, outcome_number, restarted_in_numbers}
 
 -- the refusal of a number
 abbrev refusal_of : ℕ → Refusal

@@ -3,13 +3,10 @@ use Rattle.std.specs.Prelude.{ℕ, Result, Ok, Err}
 use Rattle.node_rules.specs.declared.Refusal.{Refusal}
 use Rattle.node_rules.specs.declared.Refusal.TheVariants.{WrongLength, ClosedPort, TakesNoFrame, Misshapen, IsResponse, NotHandled, NotForNode, IllegalAddress, NothingStaged, Incomplete, BadFrame}
 use Rattle.node_rules.specs.declared.Node.{Node}
-use Rattle.node_rules.specs.declared.Deed.{Deed}
 use Rattle.node_rules.specs.declared.Replies.{Replies}
 use Rattle.node_rules.specs.declared.Answer.{Answer as Handed}
 use Rattle.node_rules.specs.declared.Restarted.{Restarted as Restart}
-use Rattle.node_rules.specs.Numbered.{Effect, Answer, UartAnswer, Restarted}
-use Rattle.node_rules.specs.Requests.{does}
-use Rattle.node_rules.specs.Outcomes.{refused}
+use Rattle.node_rules.specs.Numbered.{Answer, UartAnswer, Restarted}
 use Rattle.node_rules.specs.Step.{answering, silent_answer}
 use Rattle.node_rules.specs.Uart.{silent_on_uart}
 
@@ -26,11 +23,6 @@ refusal_number IllegalAddress = 8
 refusal_number NothingStaged = 9
 refusal_number Incomplete = 10
 refusal_number BadFrame = 11
-
--- what a frame comes to
-abbrev pub effect_in_numbers : Result Deed Refusal → Effect
-effect_in_numbers (Ok d) = does d.reply d.memory d.next
-effect_in_numbers (Err r) = refused (refusal_number r)
 
 -- the answer to a CAN frame
 abbrev pub outcome_in_numbers : Result (Replies 24) Refusal → Node → Answer

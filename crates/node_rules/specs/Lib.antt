@@ -11,3 +11,4 @@ pub mod Runs
 pub mod Others
 pub mod Reading
 pub mod Examples
+pub mod Internal

@@ -10,7 +10,7 @@ use Rattle.std.specs.Prelude.{Option, Some, None}
 use Rattle.recipe.specs.declared.Kind.{Kind}
 use Rattle.recipe.specs.declared.Kind.TheVariants.{Open, Block, Row, Leave}
 use Rattle.recipe.specs.Faults.{known}
-use Rattle.recipe.specs.Kinds.{code, kind_named}
+use Rattle.recipe.specs.Internal.Kinds.{code, kind_named}
 
 module _ (byte : ℕ) where
   -- the answer, by the four tests

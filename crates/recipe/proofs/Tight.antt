@@ -18,7 +18,8 @@ use Rattle.recipe.proofs.Kind.of.Reads as of-reads
 use Rattle.recipe.specs.declared.Fault.{Fault}
 use Rattle.recipe.specs.declared.Fault.TheVariants.{NoLeave, UnknownKind, CutShort, OutOfPlace, IllegalAddress, TooManyItems, ShortOutput}
 use Rattle.recipe.specs.declared.Refusal.{Refusal}
-use Rattle.recipe.specs.Translation.{Translated, Frames, Refused, fault_number, found_number, in_numbers}
+use Rattle.recipe.specs.Translation.{Translated, Frames, Refused, fault_number, in_numbers}
+use Rattle.recipe.specs.Internal.Found.{found_number}
 
 -- the fault of a number
 abbrev fault_of : ℕ → Fault

@@ -2,6 +2,6 @@ pub mod Items
 pub mod Frames
 pub mod Plain
 pub mod Faults
-pub mod Kinds
 pub mod Reading
 pub mod Translation
+pub mod Internal

@@ -1,5 +1,5 @@
 -- What the translator answers, and the output after it. Document 01, "The recipe".
-use Rattle.std.specs.Prelude.{ℕ, ◌*◌, true, false, cond, List, ◌++◌, ltb, length, drop, Result, Ok, Err, ⊤}
+use Rattle.std.specs.Prelude.{ℕ, ◌*◌, true, false, cond, List, ◌++◌, ltb, length, drop, Result, Ok, Err}
 use Rattle.recipe.specs.declared.Fault.{Fault}
 use Rattle.recipe.specs.declared.Fault.TheVariants.{NoLeave, UnknownKind, CutShort, OutOfPlace, IllegalAddress, TooManyItems, ShortOutput}
 use Rattle.recipe.specs.declared.Refusal.{Refusal}
@@ -21,11 +21,6 @@ fault_number OutOfPlace = 23
 fault_number IllegalAddress = 24
 fault_number TooManyItems = 25
 fault_number ShortOutput = 26
-
--- the number of what is found at an item: 0 where it is without fault
-abbrev pub found_number : Result ⊤ Fault → ℕ
-found_number (Ok u) = 0
-found_number (Err f) = fault_number f
 
 -- what the code answers, in document 01's numbers
 abbrev pub in_numbers : Result ℕ Refusal → Translated

@@ -3,7 +3,7 @@
 #![tactic(auto)]
 
 ghost use Rattle.std.specs.Prelude.{◌≡◌};
-ghost use Rattle.recipe.specs.Kinds.{kind_named};
+ghost use Rattle.recipe.specs.Internal.Kinds.{kind_named};
 ghost use Rattle.recipe.specs.Translation.{fault_number};
 
 use memory_address::{Group, Module};

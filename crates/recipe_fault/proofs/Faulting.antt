@@ -9,7 +9,7 @@ use lib.ListN.{length, get_or, drop, length-drop, drop_of_length-le}
 use lib.Seq.{get_or-drop}
 use Rattle.std.specs.Prelude.{None}
 use Rattle.recipe.specs.declared.Kind.{Kind}
-use Rattle.recipe.specs.Kinds.{code, kind_named}
+use Rattle.recipe.specs.Internal.Kinds.{code, kind_named}
 use Rattle.recipe.proofs.Naming.{unnamed, known_code}
 use Rattle.recipe.specs.Faults.{kind_of, known, body_length, address_of, out_of_place, address_illegal, fault_at}
 use Rattle.recipe.specs.Reading.{size_of}

@@ -1,7 +1,7 @@
 // What the kind of an item fixes: its place among the items, its address.
 ghost use Rattle.std.specs.Prelude.{◌≡◌};
 ghost use Rattle.recipe.specs.Faults.{out_of_place, address_illegal};
-ghost use Rattle.recipe.specs.Kinds.{code};
+ghost use Rattle.recipe.specs.Internal.Kinds.{code};
 
 use memory_address::{EepromPlace, FlashAddress};
 use recipe::Kind;

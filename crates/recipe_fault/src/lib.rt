@@ -6,7 +6,7 @@ mod kind;
 
 ghost use Rattle.std.specs.Prelude.{◌≡◌, ◌+◌, ◌≤◌, drop};
 ghost use Rattle.recipe.specs.Faults.{body_length, fault_at};
-ghost use Rattle.recipe.specs.Translation.{found_number};
+ghost use Rattle.recipe.specs.Internal.Found.{found_number};
 
 use recipe::{Fault, Kind};
 

@@ -3,7 +3,7 @@
 -- Assumes nothing.
 use mathlib.Core.Path.{◌∙◌, refl, sym, ap}
 use Rattle.std.specs.Prelude.{Ok, Err}
-use Rattle.node_rules.specs.InNumbers.{effect_in_numbers}
+use Rattle.node_rules.specs.Internal.Effects.{effect_in_numbers}
 use Rattle.node_can.proofs.Stepping.{stepped}
 use Rattle.node_can.proofs.can_frame.Goals as goal
 

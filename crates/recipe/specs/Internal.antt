@@ -1,0 +1,3 @@
+-- What is the code's own shape: the words of contracts inside, which no cited statement rests on.
+pub mod Kinds
+pub mod Found
