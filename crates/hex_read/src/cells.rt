@@ -40,6 +40,7 @@ fn mark(bytes: &[u8], places: &mut [u16]) -> Result<(), Fault>
         × OnOk result (places.new ≡ entries bytes.now)
         × (length places.new ≡ length places.old) }
 {
+    // By its number: of cells written through `iter_mut` a proof knows nothing once the loop is over.
     for (i, byte) in bytes.iter().enumerate() {
         if places[i] > 255 {
             return Err(Fault::CellTwice);

@@ -21,6 +21,7 @@ fn read_text(text: &[u8], table: &mut [u16]) -> Result<(), Refusal>
     let mut number: usize = 1;
     let mut upper: u16 = 0;
     let mut ended = false;
+    // A while: each line says where the next one starts.
     while at < text.len() {
         let Some(line) = hex_line::line_at(text, at) else {
             return Err(Refusal {
