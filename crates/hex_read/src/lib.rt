@@ -13,7 +13,7 @@ use hex_rules::{Fault, Refusal};
 use recipe::Numbers;
 
 // Reads a text line by line into a table where nothing is marked. After a refusal the table is of no more use.
-fn read_text(text: &[u8], table: &mut [u16]) -> Result<(), Refusal>
+fn read_text(text: &[u8], table: &mut [u16; 66560]) -> Result<(), Refusal>
     requires { table.old ≡ replicate 66560 255 }
     ensures { Reads result text.now table.new }
 {
