@@ -54,23 +54,16 @@ fn apply(rt: &HostRuntime, recipe: &[u8]) -> ExitCode
         &mut answers,
     );
     match delivered.translated {
-        Ok(count) => output::print_answers(rt, &answers, count),
+        Ok(count) => output::print_answers(rt, &answers[..14 * count]),
         Err(refusal) => output::print_refusal(rt, refusal),
     }
-}
-
-// Applies the first n bytes, or prints that the file is too long.
-fn apply_first(rt: &HostRuntime, bytes: &[u8; ASKED], n: usize) -> ExitCode {
-    if n > MOST {
-        return output::print_long(rt);
-    }
-    apply(rt, &bytes[..n])
 }
 
 fn main(rt: HostRuntime) -> ExitCode {
     let mut bytes = [0u8; ASKED];
     match input::read_recipe(&rt, &mut bytes) {
-        Some(n) => apply_first(&rt, &bytes, n),
+        Some(n) if n > MOST => output::print_long(&rt),
+        Some(n) => apply(&rt, &bytes[..n]),
         None => ExitCode::SUCCESS,
     }
 }

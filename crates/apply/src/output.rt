@@ -1,6 +1,6 @@
 // What is printed, on standard output. Where a write fails the rest is left out, with a message on standard error. What is printed for main
 // answers the status that the program ends with.
-ghost use Rattle.std.specs.Prelude.{◌*◌, ◌≤◌, length};
+ghost use Rattle.std.specs.Prelude.{◌≤◌};
 ghost use Rattle.recipe.specs.Translation.{fault_number};
 
 use recipe::Refusal;
@@ -19,9 +19,9 @@ fn print_line(rt: &HostRuntime, told: &[u8]) -> io::Result<()> {
     rt.write_all(b"\n")
 }
 
-// Prints a line for each of the first `count` frames; 14 bytes are told of each.
-fn print_lines(rt: &HostRuntime, answers: &[u8], count: usize) -> io::Result<()> {
-    for told in answers.chunks_exact(14).take(count) {
+// Prints a line for each frame; 14 bytes are told of each.
+fn print_lines(rt: &HostRuntime, answers: &[u8]) -> io::Result<()> {
+    for told in answers.chunks_exact(14) {
         print_line(rt, told)?;
     }
     Ok(())
@@ -35,11 +35,9 @@ fn say(rt: &HostRuntime, written: io::Result<()>) -> ExitCode {
     }
 }
 
-// Prints the answers to `count` frames, all of which are told.
-pub fn print_answers(rt: &HostRuntime, answers: &[u8], count: usize) -> ExitCode
-    requires { 14 * count ≤ length answers.now }
-{
-    say(rt, print_lines(rt, answers, count))
+// Prints the answers to the frames, 14 bytes for each.
+pub fn print_answers(rt: &HostRuntime, answers: &[u8]) -> ExitCode {
+    say(rt, print_lines(rt, answers))
 }
 
 // Prints a refusal of the recipe: its number and place on one line. There are 20 to 24: no file is long enough for 25, and the room does.

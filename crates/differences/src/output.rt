@@ -5,19 +5,8 @@ ghost use Rattle.recipe.specs.Translation as translation;
 ghost use Rattle.differs_rules.specs.Differences.{fault_number};
 
 use differs_rules::{Fault, Refusal};
-use std::fs::File;
-use std::io::Write;
+use program_io::output::{tell_file, write_out};
 use std::process::ExitCode;
-
-// Names a file, as the argument does. What can't be written on standard error, here and below, there is nobody left to tell.
-fn tell_file(rt: &HostRuntime, i: usize) {
-    let mut name = [0u8; 4096];
-    let n = program_io::arg(rt, i, &mut name).unwrap_or(0);
-    if base::byte_at(&name, 0) == b'-' {
-        return program_io::tell(rt, b"standard input");
-    }
-    program_io::tell(rt, &name[..n]);
-}
 
 // What is wrong with a recipe that has this fault. The output is never too short.
 fn why(fault: recipe::Fault) -> &'static str
@@ -37,7 +26,7 @@ fn why(fault: recipe::Fault) -> &'static str
 }
 
 // Says why there is no recipe: the refusal's number and place on the first line, then a sentence, of the image where it is no image of
-// FLASH, else of the recipe, and where in it.
+// FLASH, else of the recipe, and where in it. What can't be written on standard error, here and below, there is nobody left to tell.
 pub fn refuse(rt: &HostRuntime, refusal: Refusal) -> ExitCode
     requires { fault_number refusal.fault ≢ 26 }
 {
@@ -64,53 +53,6 @@ pub fn refuse_long(rt: &HostRuntime) -> ExitCode {
     ExitCode::SUCCESS
 }
 
-// Writes the recipe to what is open under this name; a message where that fails. Where it does not go well it answers the status that the
-// program ends with, as all below do.
-fn write_named<W: Write>(
-    rt: &HostRuntime,
-    output: &mut W,
-    name: &[u8],
-    recipe: &[u8],
-) -> Result<(), ExitCode> {
-    output
-        .write_all(recipe)
-        .map_err(|error| program_io::unwritten(rt, name, error))
-}
-
-// Hands on what is left of a file that was written; a message where that fails. The system closes it without an answer.
-fn close(rt: &HostRuntime, mut file: File, name: &[u8]) -> Result<(), ExitCode> {
-    file.flush()
-        .map_err(|error| program_io::unwritten(rt, name, error))
-}
-
-// Writes the recipe into the file of this name, which is made anew or emptied first; a message where that fails.
-fn write_file(rt: &HostRuntime, name: &[u8], recipe: &[u8]) -> Result<(), ExitCode> {
-    let mut file = program_io::open_overwrite(rt, name).map_err(|error| program_io::unwritten(
-        rt, name, error,
-    ))?;
-    write_named(rt, &mut file, name, recipe)?;
-    close(rt, file, name)
-}
-
-// Writes the recipe into the file that the third argument names.
-fn write_argument(rt: &HostRuntime, recipe: &[u8]) -> Result<(), ExitCode> {
-    let mut name = [0u8; 4096];
-    let n = program_io::arg(rt, 3, &mut name).map_err(|error| program_io::unwritten(
-        rt,
-        b"the recipe's name",
-        error,
-    ))?;
-    write_file(rt, &name[..n], recipe)
-}
-
-// Writes the recipe: into the file that is named for it, else on standard output.
-fn write_out(rt: &HostRuntime, recipe: &[u8]) -> Result<(), ExitCode> {
-    if program_io::arg_count(rt) > 3 {
-        return write_argument(rt, recipe);
-    }
-    write_named(rt, &mut rt.stdout(), b"standard output", recipe)
-}
-
 // Says how many erases the recipe is: its Blocks. Of the whole one's bytes `size` stay, and a Block that was dropped had 68.
 fn tell_erases(rt: &HostRuntime, erases: usize, size: usize, whole: usize)
     requires { (erases ≤ size) × (size ≤ whole) × (whole ≤ 139132) }
@@ -126,7 +68,7 @@ fn tell_erases(rt: &HostRuntime, erases: usize, size: usize, whole: usize)
 pub fn write_recipe(rt: &HostRuntime, recipe: &[u8], erases: usize, whole: usize) -> ExitCode
     requires { (erases ≤ length recipe.now) × (length recipe.now ≤ whole) × (whole ≤ 139132) }
 {
-    if let Err(status) = write_out(rt, recipe) {
+    if let Err(status) = write_out(rt, 3, b"the recipe's name", recipe) {
         return status;
     }
     tell_erases(rt, erases, recipe.len(), whole);

@@ -4,7 +4,7 @@ ghost use Rattle.memory_address.specs.Places.{flash_cells};
 ghost use Rattle.differs_write.specs.Internal.Standing.{AtBlock};
 ghost use Rattle.differs_write.specs.Internal.Steps.{keeps_at, last_after, erases_of_kind, next_walk, Small, Found};
 
-use recipe::{Fault, Refusal};
+use recipe::{Fault, Kind, Refusal};
 
 // Where a walk stands: the place, the number of the item there, whether Leave has come; and of the items before it how many are dropped,
 // and how many erases those are that are kept.
@@ -35,7 +35,7 @@ impl Walk {
         let behind = Walk {
             place: self.place + recipe_fault::size_of_kind(kind),
             number: self.number + 1,
-            ended: kind == 0x0F,
+            ended: matches!(Kind::of(kind), Some(Kind::Leave)),
             ..self
         };
         if kept {
@@ -52,11 +52,14 @@ impl Walk {
     }
 }
 
-// How many erases an item of a kind is. A kind stays the recipe's byte: an enum would have to be read from it at each item first.
+// How many erases an item of a kind is.
 fn erases_of_kind(kind: u8) -> usize
     ensures { (result ≡ erases_of_kind kind) × (result ≤ 1) }
 {
-    if kind == 0x02 { 1 } else { 0 }
+    match Kind::of(kind) {
+        Some(Kind::Block) => 1,
+        Some(Kind::Open | Kind::Row | Kind::Leave) | None => 0,
+    }
 }
 
 // Whether the item at a place is kept: all but a Block that stands already.
@@ -65,7 +68,10 @@ fn keeps(recipe: &[u8], place: usize, image: &[u8], last: &mut [Option<u32>]) ->
     ensures { (result ≡ keeps_at recipe.now place image.now last.old)
         × (last.new ≡ last_after recipe.now place last.old) }
 {
-    recipe[place] != 0x02 || !crate::block::turn(recipe, place, image, last)
+    match Kind::of(recipe[place]) {
+        Some(Kind::Block) => !crate::block::turn(recipe, place, image, last),
+        Some(Kind::Open | Kind::Row | Kind::Leave) | None => true,
+    }
 }
 
 // Looks at every item: for a fault, and whether it is kept. It answers the walk at the end, and `places` gets the places of the items that

@@ -10,6 +10,7 @@ ghost use Rattle.frame_rules.specs.Numbers.{to_can_number, output_after, number_
 use frame_rules::Refusal;
 
 // The identifier that a frame's first four bytes say: type, three zeros and the flag, module, group.
+// By division: fields of 12, 3 and 17 bits meet at no byte's edge, so no conversion of bytes parts them.
 #[tactic(auto, unfolding(frame_rules::specs::Frame::identifier_of))]
 fn identifier_of(frame: &[u8]) -> u32
     requires { 4 ≤ length frame.now }

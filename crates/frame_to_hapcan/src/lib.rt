@@ -9,6 +9,7 @@ ghost use Rattle.frame_rules.specs.Numbers.{to_hapcan_number, output_after, numb
 use frame_rules::Refusal;
 
 // A legal identifier as a frame's first four bytes: type, three zeros and the flag, module, group.
+// By division: fields of 12, 3 and 17 bits meet at no byte's edge, so no conversion of bytes parts them.
 #[tactic(auto, unfolding(frame_rules::specs::Frame::head_of))]
 fn head_of(identifier: u32) -> [u8; 4]
     requires { identifier ≤ 0x1FFFFFFF }

@@ -3,6 +3,7 @@ ghost use Rattle.std.specs.Prelude.{◌≡◌, ◌%◌, ◌≤◌, length};
 ghost use Rattle.hex_line.specs.Internal.Reading.{digit, byte_of, pairs_read};
 
 // What each character stands for as a digit of either case; 16 for none.
+// A table, as docs/BENCH.md (HEX texts) counts it; an Option at each of its 256 places would be no plainer to read.
 static DIGITS: [u8; 256] =
     *b"\x10\x10\x10\x10\x10\x10\x10\x10\x10\x10\x10\x10\x10\x10\x10\x10\x10\x10\x10\x10\x10\x10\x10\x10\
     \x10\x10\x10\x10\x10\x10\x10\x10\x10\x10\x10\x10\x10\x10\x10\x10\x10\x10\x10\x10\x10\x10\x10\x10\

@@ -12,6 +12,7 @@ ghost use Rattle.hex_line.specs.Internal.Lines.{line_at};
 #[derive(Clone, Copy)]
 pub struct Line {
     pub next: usize,
+    // Room for the longest record, whose own count says how many bytes are its own: memory is fixed (docs/landings/06-a5.md).
     pub bytes: [u8; 260],
 }
 
@@ -41,6 +42,6 @@ pub fn line_at(text: &[u8], at: usize) -> Option<Line>
     }
     Some(Line {
         next: at + size + ending,
-        bytes: bytes,
+        bytes,
     })
 }

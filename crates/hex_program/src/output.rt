@@ -4,27 +4,14 @@ ghost use Rattle.std.specs.Prelude.{◌≢◌};
 ghost use Rattle.hex_rules.specs.declared.Fault.TheVariants.{NoRoom};
 
 use hex_rules::{Fault, Refusal};
-use std::io::{Eprint, Write};
+use program_io::output::{tell_file, write_out};
+use program_io::tell;
+use std::io::Eprint;
 use std::process::ExitCode;
 
-// Writes a part of a sentence. Where it can't be written there is nobody left to tell.
-fn tell(rt: &HostRuntime, words: &[u8]) {
-    program_io::tell(rt, words);
-}
-
-// Writes a number in decimal.
+// Writes a number in decimal. Where it can't be written there is nobody left to tell.
 fn tell_number(rt: &HostRuntime, n: usize) {
     let _ = rt.eprint(n);
-}
-
-// Names the file, as the first argument does.
-fn tell_file(rt: &HostRuntime) {
-    let mut name = [0u8; 4096];
-    let n = program_io::arg(rt, 1, &mut name).unwrap_or(0);
-    if base::byte_at(&name, 0) == b'-' {
-        return tell(rt, b"standard input");
-    }
-    tell(rt, &name[..n]);
 }
 
 // What is wrong at the line that is refused.
@@ -60,7 +47,7 @@ pub fn refuse(rt: &HostRuntime, refusal: Refusal) -> ExitCode
     tell(rt, b" ");
     tell_number(rt, refusal.line);
     tell(rt, b"\n");
-    tell_file(rt);
+    tell_file(rt, 1);
     tell(rt, b", line ");
     tell_number(rt, refusal.line);
     tell(rt, b": ");
@@ -72,7 +59,7 @@ pub fn refuse(rt: &HostRuntime, refusal: Refusal) -> ExitCode
 // Says that the text is too long.
 pub fn refuse_long(rt: &HostRuntime) -> ExitCode {
     tell(rt, b"long\n");
-    tell_file(rt);
+    tell_file(rt, 1);
     tell(
         rt,
         b": longer than 1,048,576 bytes, the most that is read\n",
@@ -80,35 +67,10 @@ pub fn refuse_long(rt: &HostRuntime) -> ExitCode {
     ExitCode::SUCCESS
 }
 
-// Writes the recipe to what is open under this name; a message where that fails.
-fn write_named<W: Write>(rt: &HostRuntime, output: &mut W, name: &[u8], recipe: &[u8]) -> ExitCode {
-    match output.write_all(recipe) {
-        Ok(()) => ExitCode::SUCCESS,
-        Err(error) => program_io::unwritten(rt, name, error),
-    }
-}
-
-// Writes the recipe into the file of this name, which is made anew or emptied first; a message where that fails.
-fn write_file(rt: &HostRuntime, name: &[u8], recipe: &[u8]) -> ExitCode {
-    match program_io::open_overwrite(rt, name) {
-        Ok(mut file) => write_named(rt, &mut file, name, recipe),
-        Err(error) => program_io::unwritten(rt, name, error),
-    }
-}
-
-// Writes the recipe into the file that the fourth argument names.
-fn write_argument(rt: &HostRuntime, recipe: &[u8]) -> ExitCode {
-    let mut name = [0u8; 4096];
-    match program_io::arg(rt, 4, &mut name) {
-        Ok(n) => write_file(rt, &name[..n], recipe),
-        Err(error) => program_io::unwritten(rt, b"the recipe's name", error),
-    }
-}
-
-// Writes the recipe: into the file that is named for it, else on standard output.
+// Writes the recipe: into the file that the fourth argument names, else on standard output.
 pub fn write_recipe(rt: &HostRuntime, recipe: &[u8]) -> ExitCode {
-    if program_io::arg_count(rt) > 4 {
-        return write_argument(rt, recipe);
+    match write_out(rt, 4, b"the recipe's name", recipe) {
+        Ok(()) => ExitCode::SUCCESS,
+        Err(status) => status,
     }
-    write_named(rt, &mut rt.stdout(), b"standard output", recipe)
 }

@@ -5,10 +5,11 @@ mod item;
 
 ghost use Rattle.std.specs.Prelude.{◌≡◌, ◌+◌, ◌*◌, ◌/◌, ◌≤◌, ◌<◌, length};
 ghost use Rattle.base.specs.Parts.{patch};
+ghost use Rattle.recipe.specs.Internal.Kinds.{code};
 ghost use Rattle.hex_put.specs.Internal.Table.{printed_in, bytes_in, table_bytes, put_length, put_output, Items};
 
 use memory_address::EEPROM_FIRST;
-use recipe::Numbers;
+use recipe::{Kind, Numbers};
 
 // How many bytes the touched ones of the items of one size take that lie in these places.
 fn size_of_items(places: &[u16], size: usize) -> usize
@@ -25,7 +26,7 @@ fn size_of_items(places: &[u16], size: usize) -> usize
 // Puts the touched ones of the items of one size that lie in these places, the first with this address, into the output at a byte; the
 // byte behind them.
 fn put_items(
-    kind: u8,
+    kind: Kind,
     first: u32,
     places: &[u16],
     size: usize,
@@ -34,9 +35,9 @@ fn put_items(
 ) -> usize
     requires { Items places.now size
         × (first ≤ 0xF00000)
-        × (at + length (printed_in kind size places.now (length places.now / size) 0 first) ≤ length output.old) }
-    ensures { (result ≡ at + length (printed_in kind size places.now (length places.now / size) 0 first))
-        × (output.new ≡ patch output.old at (printed_in kind size places.now (length places.now / size) 0 first)) }
+        × (at + length (printed_in (code kind) size places.now (length places.now / size) 0 first) ≤ length output.old) }
+    ensures { (result ≡ at + length (printed_in (code kind) size places.now (length places.now / size) 0 first))
+        × (output.new ≡ patch output.old at (printed_in (code kind) size places.now (length places.now / size) 0 first)) }
 {
     let mut to = at;
     let mut address = first;
@@ -53,10 +54,14 @@ fn put_recipe(blocks: &[u16], rows: &[u16], numbers: Numbers, output: &mut [u8])
         × (length (bytes_in numbers.module.0 numbers.group.0 blocks.now rows.now) ≤ length output.old) }
     ensures { output.new ≡ patch output.old 0 (bytes_in numbers.module.0 numbers.group.0 blocks.now rows.now) }
 {
-    base::put(output, 0, &[0x01, numbers.module.0, numbers.group.0]);
-    let behind = put_items(0x02, 0, blocks, 64, output, 3);
-    let last = put_items(0x03, EEPROM_FIRST, rows, 8, output, behind);
-    base::put(output, last, &[0x0F]);
+    base::put(
+        output,
+        0,
+        &[item::byte_of(Kind::Open), numbers.module.0, numbers.group.0],
+    );
+    let behind = put_items(Kind::Block, 0, blocks, 64, output, 3);
+    let last = put_items(Kind::Row, EEPROM_FIRST, rows, 8, output, behind);
+    base::put(output, last, &[item::byte_of(Kind::Leave)]);
 }
 
 // Puts the recipe of the marked places of a table into a lent output; its length in bytes. Where the output has no room for it, or the

@@ -40,6 +40,7 @@ fn mark(bytes: &[u8], places: &mut [u16]) -> Result<(), Fault>
         × OnOk result (places.new ≡ entries bytes.now)
         × (length places.new ≡ length places.old) }
 {
+    // By its number: of cells written through `iter_mut` a proof knows nothing once the loop is over.
     for (i, byte) in bytes.iter().enumerate() {
         if places[i] > 255 {
             return Err(Fault::CellTwice);
@@ -51,11 +52,10 @@ fn mark(bytes: &[u8], places: &mut [u16]) -> Result<(), Fault>
 
 // Gives the cells of bytes from a place on to the table, where none is outside the legal areas, and none is given already. After a refusal
 // the table is of no more use.
-pub fn give(bytes: &[u8], start: usize, table: &mut [u16]) -> Result<(), Fault>
-    requires { (start ≤ 0xFFFFFFFF) × (length bytes.now ≤ 255) × (length table.old ≡ 66560) }
+pub fn give(bytes: &[u8], start: usize, table: &mut [u16; 66560]) -> Result<(), Fault>
+    requires { (start ≤ 0xFFFFFFFF) × (length bytes.now ≤ 255) }
     ensures { (number_or_0 result ≡ giving_fault bytes.now start table.old)
-        × OnOk result (table.new ≡ with_cells bytes.now start table.old)
-        × (length table.new ≡ 66560) }
+        × OnOk result (table.new ≡ with_cells bytes.now start table.old) }
 {
     let count = bytes.len();
     if count == 0 {

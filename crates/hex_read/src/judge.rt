@@ -1,5 +1,5 @@
 // A record that is in form: the first check that it fails, and what is given behind it.
-ghost use Rattle.std.specs.Prelude.{◌≡◌, ◌≤◌, length, OnOk};
+ghost use Rattle.std.specs.Prelude.{◌≡◌, ◌≤◌, OnOk};
 ghost use Rattle.hex_rules.specs.Record.{other_type};
 ghost use Rattle.hex_read.specs.Internal.Giving.{number_or_0};
 ghost use Rattle.hex_read.specs.Internal.Judging.{start_of, upper_behind, end_fault, record_fault, record_table};
@@ -17,7 +17,8 @@ fn is_other(bytes: &[u8; 260]) -> bool
 fn start_of(bytes: &[u8; 260], upper: u16) -> usize
     ensures { (result ≡ start_of upper bytes.now) × (result ≤ 0xFFFFFFFF) }
 {
-    65536 * upper as usize + u16::from_be_bytes([bytes[1], bytes[2]]) as usize
+    let [high, low] = upper.to_be_bytes();
+    u32::from_be_bytes([high, low, bytes[1], bytes[2]]) as usize
 }
 
 // Refuses what stands behind an end record.
@@ -32,11 +33,14 @@ fn unended(ended: bool) -> Result<(), Fault>
 
 // Refuses a record by the first check that it fails, from its sum on; else its cells are given to the table. After a refusal the table is
 // of no more use.
-pub fn judge(bytes: &[u8; 260], upper: u16, ended: bool, table: &mut [u16]) -> Result<(), Fault>
-    requires { length table.old ≡ 66560 }
+pub fn judge(
+    bytes: &[u8; 260],
+    upper: u16,
+    ended: bool,
+    table: &mut [u16; 66560],
+) -> Result<(), Fault>
     ensures { (number_or_0 result ≡ record_fault bytes.now upper ended table.old)
-        × OnOk result (table.new ≡ record_table bytes.now upper table.old)
-        × (length table.new ≡ 66560) }
+        × OnOk result (table.new ≡ record_table bytes.now upper table.old) }
 {
     let count = bytes[0] as usize;
     if frame_sum::sum_of(&bytes[..5 + count]) != 0 {

@@ -13,7 +13,7 @@ use hex_rules::{Fault, Refusal};
 use recipe::Numbers;
 
 // Reads a text line by line into a table where nothing is marked. After a refusal the table is of no more use.
-fn read_text(text: &[u8], table: &mut [u16]) -> Result<(), Refusal>
+fn read_text(text: &[u8], table: &mut [u16; 66560]) -> Result<(), Refusal>
     requires { table.old ≡ replicate 66560 255 }
     ensures { Reads result text.now table.new }
 {
@@ -21,6 +21,7 @@ fn read_text(text: &[u8], table: &mut [u16]) -> Result<(), Refusal>
     let mut number: usize = 1;
     let mut upper: u16 = 0;
     let mut ended = false;
+    // A while: each line says where the next one starts.
     while at < text.len() {
         let Some(line) = hex_line::line_at(text, at) else {
             return Err(Refusal {

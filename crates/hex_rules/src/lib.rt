@@ -35,6 +35,7 @@ impl Fault {
 }
 
 // A refusal of a text: what is wrong, and the line; an output that is too short names line 0.
+// Its own type beside recipe's: what it names is a line, not a place, as `in_numbers` of specs/Refusing.antt tells.
 #[derive(Clone, Copy, PartialEq, Eq)]
 pub struct Refusal {
     pub fault: Fault,

@@ -46,7 +46,7 @@ impl Refusal {
     }
 }
 
-// The commands.
+// The commands. A command stays a number: `rule` takes any, as a frame or a caller brings it, and others are illegal.
 pub const READ: u32 = 0x01;
 
 pub const WRITE: u32 = 0x02;

@@ -24,6 +24,7 @@ fn tested(cells: usize, size: usize, legal: bool) -> Result<(), Refusal>
     Ok(())
 }
 
+// Each of these three lends its own part: no clause can say where a part lies that a call answers within a Result.
 // Writes a row of FLASH. Refused where FLASH has another length than 65,536, and then where the address is illegal to write; both
 // leave it as it was.
 pub fn write_flash(flash: &mut [u8], at: FlashAddress, new: [u8; 8]) -> Result<(), Refusal>

@@ -10,7 +10,7 @@ pub fn write_flash_cells(cells: &mut [u8], new: &[u8])
     ensures { cells.new ≡ flash_cells_after cells.old new.now }
 {
     if cells.len() == 8 && new.len() == 8 {
-        // Tried: `cells.iter_mut().zip(new)`, of whose cells a proof knows nothing once the loop is over.
+        // By number: of cells written through `iter_mut` a proof knows nothing once the loop is over.
         for i in 0..8 {
             cells[i] &= new[i];
         }

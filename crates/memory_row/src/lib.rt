@@ -28,6 +28,7 @@ fn row_of<'a>(flash: &'a [u8], eeprom: &'a [u8], at: u32) -> Result<&'a [u8], Re
     }
 }
 
+// Two calls, which `show_row_tight` and `show_number_tight` hold: "the number may come from a call of its own" (document 01).
 // The eight cells at an address that is legal to read. The part is empty where a memory has the wrong length or the address is
 // illegal to read; `show_number` says which.
 pub fn show_row<'a>(flash: &'a [u8], eeprom: &'a [u8], at: u32) -> &'a [u8]

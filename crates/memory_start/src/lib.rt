@@ -8,7 +8,7 @@ ghost use Rattle.memory_start.specs.Internal.Examining.{examined};
 use memory_address::{FLASH_CELLS, THREE_CELLS};
 
 // What is found of a FLASH: the worked-out sum, and the flag byte, whose bit 0 says that the sums differ and bit 1 that the three
-// cells do.
+// cells do. The flags stay one byte, as the reply 0x1F1 sends them.
 #[derive(Clone, Copy)]
 pub struct Examined {
     pub sum: u32,

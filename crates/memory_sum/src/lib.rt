@@ -26,7 +26,7 @@ fn added_singly(sum: u32, s: &[u8]) -> u32
     all
 }
 
-// The sum of the cells of a part: eight cells a turn, the remainder singly.
+// The sum of the cells of a part: eight cells a turn, the remainder singly, as request A3 says (docs/BENCH.md, "The firmware sum").
 fn sum_of(s: &[u8]) -> u32
     requires { length s.now ≤ 65536 }
     ensures { (result ≡ sum_of s.now) × (result ≤ 255 * length s.now) }
@@ -40,6 +40,7 @@ fn sum_of(s: &[u8]) -> u32
     added_singly(sum, remainder)
 }
 
+// A number and no Option in both sums: `firmware_sum` and `stored_sum_of` of specs say 0 where FLASH has another length.
 // The firmware sum: all cells 0x001003 to 0x007FFF. It never passes 24 bits. 0 where FLASH has another length than 65,536.
 pub fn firmware_sum(flash: &[u8]) -> u32
     ensures { (result ≡ firmware_sum flash.now) × (result ≤ 7310595) }

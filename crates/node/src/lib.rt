@@ -1,5 +1,6 @@
 // The node's calls: a fresh one, restart, a CAN frame, a UART byte and a piece of UART bytes. The theorems of demands one and two speak of
-// these.
+// these. FLASH and EEPROM are lent as two parameters everywhere: the clauses and theorems over these calls name both, and a caller lends two
+// memories.
 #![tactic(auto)]
 
 pub use node_can::can_frame;

@@ -1,49 +1,54 @@
--- Fifteen bytes unwrap to their frame where their sum and stop are right, and else to none.
+-- Bytes unwrap to their frame where they are fifteen with a right start, sum and stop, and else to none.
 -- Assumes nothing.
-use mathlib.Core.Path.{◌≡◌, ◌∙◌, refl}
-use mathlib.Core.Bool.{Bool, true, false, cond}
+use mathlib.Core.Path.{◌≡◌, ◌∙◌, refl, sym}
+use mathlib.Core.Bool.{Bool, true, false}
 use mathlib.Core.List.{List}
 use Prim.Native.Nat.{ℕ}
 use lib.ListN.{length}
-use borrow.Author.Tests.{eq-eqb}
-use Rattle.std.specs.Prelude.{Result, Ok, Err}
+use lib.Dec.{eqb}
+use borrow.Author.Tests.{eqb-true}
+use Rattle.std.specs.Prelude.{Some, None, Result, Ok, Err}
 use Rattle.frame_rules.specs.declared.Refusal.{Refusal}
 use Rattle.frame_rules.specs.declared.Refusal.TheVariants.{Misshapen, WronglyWrapped}
 use Rattle.frame_rules.specs.Wrapping.{inner_of, rightly_wrapped}
 use Rattle.frame_rules.specs.Numbers.{number_of, refusal_number, unwrap_number, output_after}
+use Rattle.frame_rules.proofs.Done.{unwrap_done, done_unwrap}
 use Rattle.node_rules.specs.declared.Choices.{Choices}
 use Rattle.node_rules.specs.declared.Receiver.{Receiver}
 use Rattle.node_rules.specs.Record.{receiving}
 use Rattle.node_rules.specs.Uart.{held_after_bad}
-use Rattle.node_port.specs.Internal.Port.{judged}
+use Rattle.node_port.specs.Internal.Port.{frame_in, judged}
 
 no_zero : (e : Refusal) → refusal_number e ≡ 0 → ⊥
 no_zero Misshapen h = cc
 no_zero WronglyWrapped h = cc
 
-module _ (c : Choices) (w frame room : List ℕ) (l : length w ≡ 15) (k : length room ≡ 12) (r : Result (Unit {0}) Refusal)
+-- bytes that are rightly wrapped are fifteen
+pub fifteen : (w : List ℕ) → rightly_wrapped w ≡ true → length w ≡ 15
+unfolding rightly_wrapped
+fifteen w h = go (eqb (length w) 15) refl
+  where
+    go : (t : Bool) → eqb (length w) 15 ≡ t → length w ≡ 15
+    go true e = eqb-true (length w) 15 e
+    go false e = let q : false ≡ true = rw e at h in cc
+
+module _ (w frame room : List ℕ) (k : length room ≡ 12) (r : Result (Unit {0}) Refusal)
     (e : number_of r ≡ unwrap_number w (length room)) (f : frame ≡ output_after (number_of r) (inner_of w) room) where
-  gives : number_of r ≡ cond (rightly_wrapped w) 0 11
-  unfolding unwrap_number
-  gives = e ∙ go (rightly_wrapped w) refl
-    where
-      go : (t : Bool) → rightly_wrapped w ≡ t → unwrap_number w (length room) ≡ cond (rightly_wrapped w) 0 11
-      go true h = simp (eq-eqb (length room) 12 k, eq-eqb (length w) 15 l, h)
-      go false h = simp (eq-eqb (length room) 12 k, eq-eqb (length w) 15 l, h)
+  pub right : (u : Unit {0}) → r ≡ Ok u → Some frame ≡ frame_in w
+  right u is =
+      let z : 0 ≡ unwrap_number w (length room) = rw is at e in
+      let d = unwrap_done w (length room) (sym z) in
+      let q : frame ≡ inner_of w = rw is at f in
+      rw (d.2, q) refl
 
-  pub right : (u : Unit {0}) → r ≡ Ok u → Ok frame ≡ judged c w
-  right u is = go (rightly_wrapped w) refl
+  pub wrong : (x : Refusal) → r ≡ Err x → None ≡ frame_in w
+  wrong x is = go (rightly_wrapped w) refl
     where
-      go : (t : Bool) → rightly_wrapped w ≡ t → Ok frame ≡ judged c w
-      go true h = let q : frame ≡ inner_of w = rw is at f in rw (h, q) refl
-      go false h = let z : ◌≡◌ {A = ℕ} 0 11 = rw (is, h) at gives in cc
-
-  pub wrong : (x : Refusal) (held : Receiver) → r ≡ Err x → held ≡ receiving (held_after_bad c w) → Err held ≡ judged c w
-  wrong x held is q = go (rightly_wrapped w) refl
-    where
-      go : (t : Bool) → rightly_wrapped w ≡ t → Err held ≡ judged c w
-      go true h = absurd (no_zero x (rw (is, h) at gives))
-      go false h = rw (h, q) refl
+      go : (t : Bool) → rightly_wrapped w ≡ t → None ≡ frame_in w
+      go true h =
+          let z : refusal_number x ≡ unwrap_number w (length room) = rw is at e in
+          absurd (no_zero x (z ∙ done_unwrap w (length room) k (fifteen w h) h))
+      go false h = rw h refl
 
 -- and what is judged says which it was
 module _ (c : Choices) (w : List ℕ) where

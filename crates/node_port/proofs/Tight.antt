@@ -17,6 +17,9 @@ use Rattle.node_port.proofs.first_start.Reads as first-start-reads
 use Rattle.node_port.specs.contracts.listens.{signature as listens-signature}
 use Rattle.node_port.proofs.listens.Kinds as listens-kinds
 use Rattle.node_port.proofs.listens.Reads as listens-reads
+use Rattle.node_port.specs.contracts.frame_in.{signature as frame-in-signature}
+use Rattle.node_port.proofs.frame_in.Kinds as frame-in-kinds
+use Rattle.node_port.proofs.frame_in.Reads as frame-in-reads
 use Rattle.node_port.specs.contracts.judged.{signature as judged-signature}
 use Rattle.node_port.proofs.judged.Kinds as judged-kinds
 use Rattle.node_port.proofs.judged.Reads as judged-reads
@@ -48,6 +51,11 @@ pub listens_tight : (κs : Lfts 2) (a : ArgsD listens-signature κs) (r r' : Res
     (s s' : AtExit (ended_of 2 listens-kinds.ps listens-kinds.r) κs)
     → listens-reads.Post κs a r s → listens-reads.Post κs a r' s' → r ≡ r'
 listens_tight κs a r r' s s' p q = p ∙ sym q
+
+pub frame_in_tight : (κs : Lfts 1) (a : ArgsD frame-in-signature κs) (r r' : ResD frame-in-signature κs)
+    (s s' : AtExit (ended_of 1 frame-in-kinds.ps frame-in-kinds.r) κs)
+    → frame-in-reads.Post κs a r s → frame-in-reads.Post κs a r' s' → r ≡ r'
+frame_in_tight κs a r r' s s' p q = p ∙ sym q
 
 pub judged_tight : (κs : Lfts 0) (a : ArgsD judged-signature κs) (r r' : ResD judged-signature κs)
     (s s' : AtExit (ended_of 0 judged-kinds.ps judged-kinds.r) κs)

@@ -7,7 +7,7 @@ ghost use Rattle.node_rules.specs.declared.Noise.TheVariants.{KeepFromNext};
 ghost use Rattle.node_rules.specs.Record.{receiving};
 ghost use Rattle.node_rules.specs.Uart.{silent_on_uart, is_closed, kept_by, held_after_bad};
 ghost use Rattle.node_rules.specs.InNumbers.{refusal_number, uart_in_numbers};
-ghost use Rattle.node_port.specs.Internal.Port.{listens, judged};
+ghost use Rattle.node_port.specs.Internal.Port.{listens, frame_in, judged};
 
 use node_rules::{Answer, Choices, Node, Noise, Pin, Receiver, Refusal};
 
@@ -86,13 +86,20 @@ pub fn held_after_bad(c: Choices, fifteen: [u8; 15]) -> Receiver
     }
 }
 
+// The frame in these bytes; none where they aren't fifteen, or their start, sum or stop is wrong.
+pub fn frame_in(bytes: &[u8]) -> Option<[u8; 12]>
+    ensures { result ≡ frame_in bytes.now }
+{
+    let mut frame = [0u8; 12];
+    match frame_uart::unwrap(bytes, &mut frame) {
+        Ok(()) => Some(frame),
+        Err(_) => None,
+    }
+}
+
 // The frame in fifteen bytes, or what stays held of them where their sum or stop is wrong.
 pub fn judged(c: Choices, fifteen: [u8; 15]) -> Result<[u8; 12], Receiver>
     ensures { result ≡ judged c fifteen }
 {
-    let mut frame = [0u8; 12];
-    match frame_uart::unwrap(&fifteen, &mut frame) {
-        Ok(()) => Ok(frame),
-        Err(_) => Err(held_after_bad(c, fifteen)),
-    }
+    frame_in(&fifteen).ok_or_else(|| held_after_bad(c, fifteen))
 }

@@ -8,7 +8,7 @@ ghost use Rattle.node_rules.specs.Outcomes.{outcome, afterwards, unless, is_noth
 ghost use Rattle.node_rules.specs.InNumbers.{refusal_number};
 ghost use Rattle.node_rules.specs.Internal.Effects.{effect_in_numbers};
 
-use memory_address::Address;
+use memory_address::{Address, READ, WRITE};
 use node_rules::{Deed, Memory, Mode, Next, Refusal, Reply, Request, Staged};
 
 // What a refusal leaves of the mode: all as it is, but an illegal address leaves nothing staged.
@@ -42,15 +42,14 @@ fn address_in(frame: &[u8]) -> u32
     u32::from_be_bytes([0, high, middle, low])
 }
 
-// The command that is staged at a legal address.
-fn command_at(command: u8, a: Address) -> Staged
+// The command that is staged at a legal address. EEPROM has no erase: what doesn't read there writes.
+fn command_at(command: u32, a: Address) -> Staged
     ensures { result ≡ command_at command a }
 {
     match (command, a) {
-        (0x01, _) => Staged::Read(a),
-        (0x02, _) => Staged::Write(a),
+        (READ, _) => Staged::Read(a),
+        (WRITE, _) | (_, Address::Eeprom(_)) => Staged::Write(a),
         (_, Address::Flash(f)) => Staged::Erase(f),
-        (_, Address::Eeprom(_)) => Staged::Write(a),
     }
 }
 
@@ -59,8 +58,8 @@ fn stage(frame: &[u8]) -> Result<Deed, Refusal>
     ensures { effect_in_numbers result ≡ unless (outcome 8 (not (is_legal (ruled_in frame.now))) ∷ [])
         (does Reply.Echoed Memory.Kept (Next.Programs (staged_by (D 5 frame.now) (ruled_in frame.now)))) }
 {
-    let command = base::byte_at(frame, 9);
-    let rule = memory_address::rule(address_in(frame), command as u32);
+    let command = u32::from(base::byte_at(frame, 9));
+    let rule = memory_address::rule(address_in(frame), command);
     let a = rule.ok_or(Refusal::IllegalAddress)?;
     does(
         Reply::Echoed,

@@ -1,6 +1,8 @@
 // What the programs ask of the system: their arguments, files by the names that these give, and messages of what failed.
 #![tactic(auto)]
 
+pub mod output;
+
 ghost use Rattle.std.specs.Prelude.{◌≡◌, ℕ, ◌<◌, ◌≤◌, IsTrue, Ok, Err, Some, None, IfSome, length};
 ghost use Rattle.std.specs.Io.{ReadsAtMost, WritesAtMost};
 
@@ -21,6 +23,7 @@ const UNREAD: u8 = 141;
 
 // How many arguments there are, with the program's own name.
 pub fn arg_count(rt: &impl Env) -> usize {
+    // By index: std's iterator over the arguments asks for memory from the heap, so counting them could fail.
     for i in 0..usize::MAX {
         if let Err(FillError::NotPresent) = rt.arg(i, &mut []) {
             return i;
@@ -30,7 +33,7 @@ pub fn arg_count(rt: &impl Env) -> usize {
 }
 
 // The most bytes that a name has.
-const LONGEST_NAME: usize = 4096;
+pub const LONGEST_NAME: usize = 4096;
 
 // Puts an argument at the start of buf and answers its length, or why that can't be. One that is longer leaves its first bytes in buf.
 pub fn arg(rt: &impl Env, i: usize, buf: &mut [u8]) -> io::Result<usize>

@@ -23,6 +23,7 @@ pub fn size_of_kind(kind: u8) -> usize
 }
 
 // The first refusal that holds of the item at a place. Behind the end there is no kind: that is an unknown one.
+// Place, number and ended are no struct: the contract says the definition of them, one by one.
 pub fn fault_at(input: &[u8], place: usize, number: usize, ended: bool) -> Result<(), Fault>
     ensures { found_number result ≡ fault_at (drop place input.now) number ended }
 {

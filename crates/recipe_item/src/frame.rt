@@ -1,5 +1,5 @@
 // The frames of 12 bytes that a recipe becomes.
-ghost use Rattle.std.specs.Prelude.{◌≡◌, length};
+ghost use Rattle.std.specs.Prelude.{◌≡◌};
 ghost use Rattle.recipe.specs.Frames.{address_frame, data_frame, leave_frame};
 
 use recipe::Numbers;
@@ -26,23 +26,23 @@ pub fn address_frame(numbers: Numbers, command: u8, a: u32) -> [u8; 12]
 }
 
 // A 0x040 frame: the eight bytes of a command.
-pub fn data_frame(numbers: Numbers, cells: &[u8]) -> [u8; 12]
-    requires { length cells.now ≡ 8 }
-    ensures { result ≡ data_frame numbers.module.0 numbers.group.0 cells.now }
+pub fn data_frame(numbers: Numbers, cells: [u8; 8]) -> [u8; 12]
+    ensures { result ≡ data_frame numbers.module.0 numbers.group.0 cells }
 {
+    let [a, b, c, d, e, f, g, h] = cells;
     [
         0x04,
         0x00,
         numbers.module.0,
         numbers.group.0,
-        cells[0],
-        cells[1],
-        cells[2],
-        cells[3],
-        cells[4],
-        cells[5],
-        cells[6],
-        cells[7],
+        a,
+        b,
+        c,
+        d,
+        e,
+        f,
+        g,
+        h,
     ]
 }
 

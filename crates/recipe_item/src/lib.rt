@@ -36,6 +36,7 @@ fn whole_with_room(
 pub fn put_item(input: &[u8], place: usize, output: &mut [u8], at: usize, numbers: Numbers)
     ensures { output.new ≡ item_put numbers.module.0 numbers.group.0 (drop place input.now) output.old at }
 {
+    // Each kind with its sizes: the table that has them as code is recipe_translate's, a crate above.
     match Kind::of(base::byte_at(input, place)) {
         Some(Kind::Block) => {
             if whole_with_room(input.len(), place, 68, output.len(), at, 216) {
@@ -63,9 +64,10 @@ pub fn put_item(input: &[u8], place: usize, output: &mut [u8], at: usize, number
         }
         Some(Kind::Leave) => {
             if whole_with_room(input.len(), place, 1, output.len(), at, 12) {
-                put::put(output, at, frame::leave_frame(numbers));
+                base::put(output, at, &frame::leave_frame(numbers));
             }
         }
+        // Two arms, tried as one: of `Some(Kind::Open) | None` the proof has only tags, by names that may change.
         Some(Kind::Open) => {}
         None => {}
     }

@@ -7,14 +7,6 @@ ghost use Rattle.recipe.specs.Frames.{address_frame, data_frame, writes, item_fr
 use memory_address::{EepromPlace, FlashAddress};
 use recipe::Numbers;
 
-// Puts a frame into the output at a byte.
-pub fn put(output: &mut [u8], at: usize, frame: [u8; 12])
-    requires { at + 12 ≤ length output.old }
-    ensures { output.new ≡ patch output.old at frame }
-{
-    base::put(output, at, &frame);
-}
-
 // Puts a 0x030 frame and its 0x040 frame into the output at a byte.
 pub fn put_pair(
     output: &mut [u8],
@@ -22,18 +14,18 @@ pub fn put_pair(
     numbers: Numbers,
     command: u8,
     address: u32,
-    cells: &[u8],
+    cells: [u8; 8],
 )
-    requires { (at + 24 ≤ length output.old) × (length cells.now ≡ 8) }
+    requires { at + 24 ≤ length output.old }
     ensures { output.new
-        ≡ patch output.old at (address_frame numbers.module.0 numbers.group.0 command address ++ data_frame numbers.module.0 numbers.group.0 cells.now) }
+        ≡ patch output.old at (address_frame numbers.module.0 numbers.group.0 command address ++ data_frame numbers.module.0 numbers.group.0 cells) }
 {
-    put(
+    base::put(
         output,
         at,
-        crate::frame::address_frame(numbers, command, address),
+        &crate::frame::address_frame(numbers, command, address),
     );
-    put(output, at + 12, crate::frame::data_frame(numbers, cells));
+    base::put(output, at + 12, &crate::frame::data_frame(numbers, cells));
 }
 
 // Puts the eight writes of a Block, upward, of the 64 bytes that the input has from a byte on.
@@ -51,14 +43,13 @@ pub fn put_writes(
 {
     // A range: the input's cells, the output's frames and the address go on by different steps of the same number.
     for i in 0..8 {
-        let cells = from + 8 * i;
         put_pair(
             output,
             at + 24 * i,
             numbers,
             0x02,
             address + 8 * i as u32,
-            &input[cells..cells + 8],
+            base::eight(input, from + 8 * i),
         );
     }
 }
@@ -77,9 +68,8 @@ pub fn put_block(
         ≡ patch output.old at
         (joined (item_frames numbers.module.0 numbers.group.0 (block address.0 (part input.now (place + 4) 64)))) }
 {
-    let blank = [0xFFu8; 8];
     let number = address.0;
-    put_pair(output, at, numbers, 0x03, number, &blank);
+    put_pair(output, at, numbers, 0x03, number, [0xFF; 8]);
     put_writes(input, place + 4, output, at + 24, numbers, number);
 }
 
@@ -97,6 +87,12 @@ pub fn put_row(
         ≡ patch output.old at
         (joined (item_frames numbers.module.0 numbers.group.0 (row address.0 (part input.now (place + 4) 8)))) }
 {
-    let from = place + 4;
-    put_pair(output, at, numbers, 0x02, address.0, &input[from..from + 8]);
+    put_pair(
+        output,
+        at,
+        numbers,
+        0x02,
+        address.0,
+        base::eight(input, place + 4),
+    );
 }

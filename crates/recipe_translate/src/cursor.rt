@@ -30,7 +30,7 @@ pub fn next(input: &[u8], c: Cursor) -> Cursor
     Cursor {
         place: place + recipe_fault::size_of_kind(kind),
         number: c.number + 1,
-        ended: kind == 0x0F,
+        ended: crate::kind::is_leave(kind),
         frames: c.frames + crate::kind::frames_of_kind(kind),
     }
 }

@@ -1,5 +1,5 @@
-// What the kind of an item fixes: its frames.
-ghost use Rattle.std.specs.Prelude.{◌≡◌, ◌<◌};
+// What the kind of an item fixes: its frames, and whether it is the last.
+ghost use Rattle.std.specs.Prelude.{◌≡◌, ◌<◌, eqb};
 ghost use Rattle.recipe_item.specs.Internal.Emitted.{frames_of_kind};
 
 use recipe::Kind;
@@ -14,4 +14,11 @@ pub fn frames_of_kind(kind: u8) -> usize
         Some(Kind::Leave) => 1,
         Some(Kind::Open) | None => 0,
     }
+}
+
+// Whether an item of a kind is Leave.
+pub fn is_leave(kind: u8) -> bool
+    ensures { result ≡ eqb kind 0x0F }
+{
+    matches!(Kind::of(kind), Some(Kind::Leave))
 }

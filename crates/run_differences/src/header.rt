@@ -3,6 +3,7 @@ use base::byte_at;
 use run_stream::{number, short};
 
 // A header: the recipe's length, the image's and that of the lent output, the image's fill with its steps, and how many patches follow.
+// The fill and its steps are numbers of the record (second/PROTOCOL.md), handed on once: a struct of three is no plainer.
 #[derive(Clone, Copy)]
 pub struct Header {
     pub length: usize,

@@ -2,7 +2,7 @@
 use std::io;
 use std::io::Write;
 
-// What a line says beside the recipe's place in the stream.
+// What a line says beside the recipe's place in the stream. A number and a value, no Result: second/PROTOCOL.md has both in each line.
 #[derive(Clone, Copy)]
 pub struct Line {
     pub number: u8,

@@ -52,7 +52,8 @@ fn handle<R: Read, W: Write>(
     line::print(printer, at, l)
 }
 
-// The whole stream: a header, and the recipe and the patches behind it.
+// The whole stream: a header, and the recipe and the patches behind it. Each program of a stream has buffers of its own: one loop for
+// all is no plainer.
 fn stream<R: Read, W: Write>(
     input: &mut R,
     printer: &mut W,

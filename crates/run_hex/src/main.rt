@@ -38,7 +38,7 @@ fn handle<R: Read, W: Write>(
     line::print(printer, at, l)
 }
 
-// The whole stream: a header, and the text behind it.
+// The whole stream: a header, and the text behind it. Each program of a stream has buffers of its own: one loop for all is no plainer.
 fn stream<R: Read, W: Write>(
     input: &mut R,
     printer: &mut W,

@@ -1,2 +1,3 @@
 -- What is the code's own shape: the words of contracts inside, which no cited statement rests on.
+pub mod Begun
 pub mod Record

@@ -1,6 +1,7 @@
 // How the long runs write things down (second/PROTOCOL.md): the node's record as 31 bytes, and what a call answers.
 #![tactic(auto)]
 
+pub mod begun;
 mod last;
 
 ghost use Rattle.std.specs.Prelude.{◌≡◌};

@@ -20,6 +20,7 @@ pub fn read_full<R: Read>(input: &mut R, bytes: &mut [u8]) -> io::Result<usize>
     ensures end { IfOk result (λ n. n < length bytes.new → IsAtEnd (R.remaining input.new)) }
 {
     let mut done = 0;
+    // A while: each read says how far it went, so no index is counted.
     while done < bytes.len() {
         let more = input.read(&mut bytes[done..])?;
         if more == 0 {
@@ -115,6 +116,7 @@ pub fn fill(cells: &mut [u8], v: u8, step: u8, more: u8)
     ensures { cells.new ≡ filled (length cells.old) 0 v step more }
 {
     let mut value = v;
+    // By index: of a cell that comes through iter_mut the proof knows nothing.
     for i in 0..cells.len() {
         cells[i] = value;
         value = next(value, i + 1, step, more);

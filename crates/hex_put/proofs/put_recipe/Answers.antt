@@ -14,7 +14,7 @@ put_items-behind-requires c =
       blocks_items a.blocks.now c.requires.0,
       omega arith,
       rw (blocks_many a.blocks.now c.requires.0)
-          (first_room a.output.now head (blocks_put a.blocks.now) (rows_put a.rows.now) (0x0F ∷ []) room _ c.put.ensures 3 refl),
+          (first_room a.output.now head (blocks_put a.blocks.now) (rows_put a.rows.now) (0x0F ∷ []) room _ (rw c.byte_of.ensures at c.put.ensures) 3 refl),
     )
 
 pub put_items-last-requires : goal.put_items-last-requires
@@ -26,7 +26,7 @@ put_items-last-requires c =
       rows_items a.rows.now c.requires.1,
       omega arith,
       rw (rows_many a.rows.now c.requires.1)
-          (second_room a.output.now head (blocks_put a.blocks.now) (rows_put a.rows.now) (0x0F ∷ []) room _ c.put.ensures _ 3 refl b.1 _ b.0),
+          (second_room a.output.now head (blocks_put a.blocks.now) (rows_put a.rows.now) (0x0F ∷ []) room _ (rw c.byte_of.ensures at c.put.ensures) _ 3 refl b.1 _ b.0),
     )
 
 pub returns : goal.returns
@@ -37,5 +37,5 @@ returns c =
     let b = rw (blocks_many a.blocks.now c.requires.0) at c.put_items-behind.ensures in
     let r = rw (rows_many a.rows.now c.requires.1) at c.put_items-last.ensures in
     rw (bytes_parts a.numbers.module.0 a.numbers.group.0 a.blocks.now a.rows.now)
-    (fourth a.output.now head (blocks_put a.blocks.now) (rows_put a.rows.now) (0x0F ∷ []) room _ c.put.ensures _ 3 refl b.1 _ _ b.0 r.1 _ _ r.0
-    c.put-2.ensures)
+    (fourth a.output.now head (blocks_put a.blocks.now) (rows_put a.rows.now) (0x0F ∷ []) room _ (rw c.byte_of.ensures at c.put.ensures) _ 3 refl b.1 _ _ b.0 r.1 _ _ r.0
+    (rw c.byte_of-2.ensures at c.put-2.ensures))

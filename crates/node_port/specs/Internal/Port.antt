@@ -1,5 +1,5 @@
 -- What the port answers about a call and about fifteen bytes.
-use Rattle.std.specs.Prelude.{ℕ, Bool, not, cond, List, Result, Ok, Err}
+use Rattle.std.specs.Prelude.{ℕ, Bool, not, cond, List, Option, Some, None, Result, Ok, Err}
 use Rattle.frame_rules.specs.Wrapping.{inner_of, rightly_wrapped}
 use Rattle.node_rules.specs.declared.Choices.{Choices}
 use Rattle.node_rules.specs.declared.Receiver.{Receiver}
@@ -17,6 +17,10 @@ listens full n =
     (cond (is_closed n.choices.pin) (Err ClosedPort)
     (cond (is_deaf n.mode) (Err TakesNoFrame)
     (Ok tt)))
+
+-- the frame in these bytes; none where they aren't fifteen, or their start, sum or stop is wrong
+abbrev pub frame_in : List ℕ → Option (List ℕ)
+frame_in w = cond (rightly_wrapped w) (Some (inner_of w)) None
 
 -- the frame in fifteen bytes, or what stays held of them where their sum or stop is wrong
 abbrev pub judged : Choices → List ℕ → Result (List ℕ) Receiver

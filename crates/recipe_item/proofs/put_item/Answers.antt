@@ -1,9 +1,11 @@
 -- `recipe_item::put_item` meets its contract: the kind says what stands there, and the test whether its frames are put.
 -- Assumes nothing.
-use mathlib.Core.Path.{sym, ◌∙◌}
+use mathlib.Core.Path.{◌≡◌, sym, ◌∙◌}
 use Prim.Native.Nat.{◌+◌}
 use lib.ListN.{length}
 use native.Mathlib.Omega.{arith}
+use borrow.Author.Rules.{rules}
+use Rattle.base.proofs.Patched.{put_fits}
 use Rattle.recipe.specs.declared.Kind.TheVariants.{Open, Block, Row, Leave}
 use Rattle.recipe.proofs.Naming.{named_as, none_named}
 use Rattle.recipe_item.proofs.Fitting.{fitting, block_stays, block_done, row_stays, row_done, leave_stays, leave_done, nothing_there}
@@ -21,12 +23,6 @@ put_row-requires c =
     let a = c.args in
     fitting _ (a.place + 12) (a.at + 24) (length a.input.now) (length a.output.now)
     c.whole_with_room-in-Some-Row.ensures c.if-whole_with_room-2.true
-
-pub put-requires : goal.put-requires
-put-requires c =
-    let a = c.args in
-    (fitting _ (a.place + 1) (a.at + 12) (length a.input.now) (length a.output.now)
-    c.whole_with_room-in-Some-Leave.ensures c.if-whole_with_room-3.true).1
 
 pub returns-then-whole_with_room : goal.returns-then-whole_with_room
 returns-then-whole_with_room c =
@@ -59,10 +55,15 @@ returns-else-whole_with_room-2 c =
 pub returns-then-whole_with_room-3 : goal.returns-then-whole_with_room-3
 returns-then-whole_with_room-3 c =
     let a = c.args in
+    let twelve : length c.leave_frame.result ≡ 12 = search rules in
+    let room =
+    (fitting _ (a.place + 1) (a.at + 12) (length a.input.now) (length a.output.now)
+    c.whole_with_room-in-Some-Leave.ensures c.if-whole_with_room-3.true).1
+    in
     leave_done a.numbers.module.0 a.numbers.group.0 a.input.now a.place a.output.now a.at (sym c.byte_at.ensures ∙ named_as c.byte_at.result _ Leave (sym c.of.ensures ∙ c.in-Some-Leave.is) c.in-Some-Leave.field-0-is) _
     c.whole_with_room-in-Some-Leave.ensures
     _ _ c.if-whole_with_room-3.true c.leave_frame.ensures
-    c.put.ensures
+    (c.put.ensures ∙ put_fits a.output.now a.at c.leave_frame.result (omega (arith, room, twelve)))
 
 pub returns-else-whole_with_room-3 : goal.returns-else-whole_with_room-3
 returns-else-whole_with_room-3 c =

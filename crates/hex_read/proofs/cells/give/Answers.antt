@@ -22,5 +22,4 @@ returns c =
           ∙ ap (λ (m : ℕ). cond (some_marked (part a.table.now k m)) 34 0) wide
           ∙ sym (give_by a.bytes.now a.start a.table.now c.if-count-eq0.false k at),
       on_ok_weaker c.mark.result (table_given a.bytes.now a.start a.table.now c.if-count-eq0.false k at _) c.mark.ensures.1,
-      omega arith,
     )

@@ -14,18 +14,18 @@ use Rattle.hex_read.proofs.judge.judge.Goals as goal
 pub returns-then-sum_of-ne0 : goal.returns-then-sum_of-ne0
 returns-then-sum_of-ne0 c =
     let a = c.args in
-    (wrong_sum a.bytes.now a.upper a.ended a.table.now c.sum_of.result c.sum_of.ensures c.if-sum_of-ne0.true, tt, c.requires)
+    (wrong_sum a.bytes.now a.upper a.ended a.table.now c.sum_of.result c.sum_of.ensures c.if-sum_of-ne0.true, tt)
 
 pub returns-then-is_other : goal.returns-then-is_other
 returns-then-is_other c =
     let a = c.args in
-    (wrong_type a.bytes.now a.upper a.ended a.table.now c.sum_of.result c.sum_of.ensures c.if-sum_of-ne0.false (sym c.is_other.ensures ∙ c.if-is_other.true), tt, c.requires)
+    (wrong_type a.bytes.now a.upper a.ended a.table.now c.sum_of.result c.sum_of.ensures c.if-sum_of-ne0.false (sym c.is_other.ensures ∙ c.if-is_other.true), tt)
 
 pub returns-then-bytes-ne0 : goal.returns-then-bytes-ne0
 returns-then-bytes-ne0 c =
     let a = c.args in
     let n = no_cells a.bytes.now a.upper a.ended a.table.now c.sum_of.result c.sum_of.ensures c.if-sum_of-ne0.false (sym c.is_other.ensures ∙ c.if-is_other.false) c.if-bytes-ne0.true in
-    (c.unended.ensures ∙ n.0, on_ok_always c.unended.result n.1, c.requires)
+    (c.unended.ensures ∙ n.0, on_ok_always c.unended.result n.1)
 
 pub returns-in_err-give : goal.returns-in_err-give
 returns-in_err-give c =
@@ -37,7 +37,6 @@ returns-in_err-give c =
       cells_refused b a.upper a.ended a.table.now c.sum_of.result c.sum_of.ensures c.if-sum_of-ne0.false (sym c.is_other.ensures ∙ c.if-is_other.false) c.if-bytes-ne0.false _
           (c.in_err-give.ensures.0 ∙ ap₂ (λ (n s : ℕ). giving_fault (part b 4 n) s a.table.now) wide c.start_of.ensures.0) (fault_some _),
       tt,
-      c.give.ensures.2,
     )
 
 pub returns : goal.returns
@@ -54,5 +53,4 @@ returns c =
           (given
           ∙ ap₂ (λ (n s : ℕ). with_cells (part b 4 n) s a.table.now) wide c.start_of.ensures.0
           ∙ sym (cells_table b a.upper a.ended a.table.now c.sum_of.result c.sum_of.ensures c.if-sum_of-ne0.false other c.if-bytes-ne0.false)),
-      c.give.ensures.2,
     )

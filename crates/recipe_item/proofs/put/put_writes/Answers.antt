@@ -1,9 +1,9 @@
 -- `recipe_item::put::put_writes` meets its contract. The loop keeps that i rows are written.
 -- Assumes nothing.
-use mathlib.Core.Path.{◌≡◌, ap}
-use Prim.Native.Nat.{ℕ, ◌-◌, ◌+◌, ◌*◌}
-use lib.ListN.{take, drop}
+use mathlib.Core.Path.{◌∙◌}
+use Prim.Native.Nat.{◌+◌, ◌*◌}
 use native.Mathlib.Omega.{arith}
+use Rattle.base.proofs.Listed.{listed_part}
 use Rattle.recipe_item.proofs.Emitting.{writing_start, writing_next, writing_end}
 use Rattle.recipe_item.proofs.put.put_writes.Goals as goal
 
@@ -16,10 +16,10 @@ pub loop-i-preserved : goal.loop-i-preserved
 loop-i-preserved c =
     let a = c.args in
     let l = c.loop-i in
-    let eight : a.from + 8 * l.i + 8 - (a.from + 8 * l.i) ≡ 8 = omega arith in
+    let whole = c.requires.0 in
     writing_next a.input.now a.from a.output.now a.at a.numbers.module.0 a.numbers.group.0 a.address c.requires.0 c.requires.1
     l.output c.put_pair.new.output _ l.i l.invariant (omega arith)
-    (ap (λ (n : ℕ). take n (drop (a.from + 8 * l.i) a.input.now)) eight) c.put_pair.ensures
+    (c.eight.ensures ∙ listed_part a.input.now (a.from + 8 * l.i) 8 (omega arith)) c.put_pair.ensures
 
 pub returns : goal.returns
 returns c =

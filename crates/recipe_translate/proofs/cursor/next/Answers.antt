@@ -9,7 +9,7 @@ use Rattle.recipe_translate.proofs.cursor.next.Goals as goal
 pub returns : goal.returns
 returns c =
     let input = c.args.input.now in (
-      next_is input c.args.c c.size_of_kind.result
-          c.frames_of_kind.result c.size_of_kind.ensures.0 c.frames_of_kind.ensures.0,
+      rw c.is_leave.ensures
+          (next_is input c.args.c c.size_of_kind.result c.frames_of_kind.result c.size_of_kind.ensures.0 c.frames_of_kind.ensures.0),
       bytes_by input (λ i l. omega (arith, c.type_inv.input i)),
     )
