@@ -1,7 +1,8 @@
 // What a record of the stream hands in: numbers, fixed bytes, a node's record.
 use base::byte_at;
-use memory_address::{Address, EepromPlace, FlashAddress, Group, Module};
-use node_rules::{Choices, Mode, Node, Noise, Pin, Plate, Receiver, Staged};
+use memory_address::{Group, Module};
+use node_rules::{Choices, Mode, Node, Noise, Plate, Receiver};
+use run_record::begun;
 use run_stream::{number, part};
 
 // A length at place i: more than 20 counts as 20.
@@ -17,44 +18,12 @@ pub fn six(s: &[u8], i: usize) -> [u8; 6] {
     }
 }
 
-// 0 says CAN only, anything else CAN and UART.
-pub fn pin(b: u8) -> Pin {
-    if b == 0 {
-        return Pin::CanOnly;
-    }
-    Pin::CanAndUart
-}
-
-// The way after noise: 1 the new one, more the old one; 0 says nothing, and then the old way counts where it is meant, and else the new one.
-pub fn way(b: u8, old: bool) -> Noise {
-    match (b, old) {
-        (0, false) | (1, _) => Noise::KeepFromNext,
-        _ => Noise::DropAll,
-    }
-}
-
-// The address as its kind says: 0 FLASH, else EEPROM.
-fn address_of(kind: u8, a: u32) -> Address {
-    if kind == 0 {
-        return Address::Flash(FlashAddress(a));
-    }
-    Address::Eeprom(EepromPlace(a))
-}
-
-fn staged(s: u8, kind: u8, a: u32) -> Staged {
-    match s {
-        1 => Staged::Read(address_of(kind, a)),
-        2 => Staged::Write(address_of(kind, a)),
-        3 => Staged::Erase(FlashAddress(a)),
-        _ => Staged::Nothing,
-    }
-}
-
+// The mode, as its number says: 2 programming, with what is staged.
 fn mode(m: u8, s: u8, kind: u8, a: u32) -> Mode {
     match m {
         0 => Mode::Normal(false),
         1 => Mode::Normal(true),
-        2 => Mode::Programming(staged(s, kind, a)),
+        2 => Mode::Programming(begun::staged(s, kind, a)),
         3 => Mode::Error,
         _ => Mode::Waiting,
     }
@@ -77,8 +46,8 @@ fn count(low: u8, high: u32) -> usize {
 pub fn node(s: &[u8], old: bool) -> Node {
     Node {
         choices: Choices {
-            pin: pin(byte_at(s, 1)),
-            noise: way(byte_at(s, 37), old),
+            pin: begun::pin(byte_at(s, 1)),
+            noise: begun::way(byte_at(s, 37), old).unwrap_or(Noise::KeepFromNext),
         },
         plate: Plate {
             fixed: six(s, 2),
