@@ -31,8 +31,7 @@ pub fn to_can(frame: &[u8], data: &mut [u8]) -> Result<u32, Refusal>
     if data.len() != 8 || frame.len() != 12 || frame[1] % 16 > 1 {
         return Err(Refusal::Misshapen);
     }
-    let mut d = [0u8; 8];
-    d.copy_from_slice(&frame[4..]);
+    let d: [u8; 8] = frame[4..].try_into().map_err(|_| Refusal::Misshapen)?;
     data.copy_from_slice(&d);
     Ok(identifier_of(frame))
 }

@@ -10,9 +10,9 @@ pub fn write_flash_cells(cells: &mut [u8], new: &[u8])
     ensures { cells.new ≡ flash_cells_after cells.old new.now }
 {
     if cells.len() == 8 && new.len() == 8 {
-        // By number: of cells written through `iter_mut` a proof knows nothing once the loop is over.
-        for i in 0..8 {
-            cells[i] &= new[i];
+        // By its number: of cells written through `iter_mut` a proof knows nothing once the loop is over.
+        for (i, bits) in new.iter().enumerate() {
+            cells[i] &= *bits;
         }
     }
 }

@@ -2,17 +2,10 @@
 #![tactic(auto)]
 
 ghost use Rattle.std.specs.Prelude.{◌≡◌, ◌≤◌, ◌+◌, ◌*◌, length};
-ghost use Rattle.base.specs.Parts.{sum_of, high_first};
+ghost use Rattle.base.specs.Parts.{sum_of};
 ghost use Rattle.memory_sum.specs.Sum.{firmware_sum, stored_sum_of};
 
 use memory_address::{FIRST_SUMMED, FLASH_CELLS, PAST_SUMMED, STORED_SUM};
-
-// Three bytes as a number, high byte first.
-fn high_first(a: u8, b: u8, c: u8) -> u32
-    ensures { result ≡ high_first a b c }
-{
-    u32::from_be_bytes([0, a, b, c])
-}
 
 // A sum with the cells of a part added to it, singly.
 fn added_singly(sum: u32, s: &[u8]) -> u32
@@ -61,5 +54,5 @@ pub fn stored_sum(flash: &[u8]) -> u32
         return 0;
     }
     let at = STORED_SUM.0 as usize;
-    high_first(flash[at], flash[at + 1], flash[at + 2])
+    u32::from_be_bytes([0, flash[at], flash[at + 1], flash[at + 2]])
 }
