@@ -23,48 +23,18 @@ fn pin_byte(p: Pin) -> u8
 pub fn bytes_of(n: Node) -> [u8; 31]
     ensures { result ≡ node_bytes n }
 {
-    let choices = n.choices;
     let plate = n.plate;
     let receiver = n.receiver;
-    let mode = n.mode;
-    let pin = choices.pin;
-    let fixed = plate.fixed;
-    let held = receiver.held;
-    let first = pin_byte(pin);
-    let last = last::last_of(mode);
-    [
-        first,
-        fixed[0],
-        fixed[1],
-        fixed[2],
-        fixed[3],
-        fixed[4],
-        fixed[5],
-        plate.own.0,
-        plate.group.0,
-        (receiver.count % 256) as u8,
-        held[0],
-        held[1],
-        held[2],
-        held[3],
-        held[4],
-        held[5],
-        held[6],
-        held[7],
-        held[8],
-        held[9],
-        held[10],
-        held[11],
-        held[12],
-        held[13],
-        last.mode,
-        last.staged,
-        last.kind,
-        (last.address / 16_777_216) as u8,
-        (last.address / 65_536 % 256) as u8,
-        (last.address / 256 % 256) as u8,
-        (last.address % 256) as u8,
-    ]
+    let last = last::last_of(n.mode);
+    let mut bytes = [0; 31];
+    bytes[0] = pin_byte(n.choices.pin);
+    bytes[7] = plate.own.0;
+    bytes[8] = plate.group.0;
+    bytes[9] = (receiver.count % 256) as u8;
+    bytes[24..].copy_from_slice(&last);
+    bytes[10..24].copy_from_slice(&receiver.held[..14]);
+    bytes[1..7].copy_from_slice(&plate.fixed);
+    bytes
 }
 
 // What a call answered: document 01's number, and the replies. A refusal has none, and 0 stands for their bytes.
