@@ -11,21 +11,20 @@ use lib.ListN.{length, take, drop, replicate, length-append, length-take, drop_o
 use lib.Seq.{length-take-le, take_at, drop_at}
 use borrow.Author.Tests.{eqb-true, ne_eqb, lt-ltb, le-ltb}
 use borrow.Rule.Slice.PartMut.{put_mid}
-use Rattle.std.specs.Prelude.{Some, None, Result, Ok, Err}
+use Rattle.std.specs.Prelude.{Option, Some, None, Result, Ok, Err}
 use Rattle.std.proofs.lemmas.List.{drop-replicate, length-drop, take_all}
 use Rattle.std.proofs.lemmas.Bool.{cases_lt}
 use Rattle.base.specs.Parts.{part}
 use Rattle.base.proofs.Choice.{cond_true, cond_false, cond_same}
 use Rattle.frame_rules.specs.Wrapping.{inner_of, rightly_wrapped}
-use Rattle.frame_rules.specs.Numbers.{unwrap_number}
-use Rattle.frame_rules.proofs.Done.{unwrap_done}
-use Rattle.frame_rules.proofs.Pinned.{unwrap_numbers}
 use Rattle.node_rules.specs.declared.Choices.{Choices}
 use Rattle.node_rules.specs.declared.Receiver.{Receiver}
 use Rattle.node_rules.specs.declared.Refusal.TheVariants.{Incomplete}
 use Rattle.node_rules.specs.Record.{padded, receiving, held_in}
 use Rattle.node_rules.specs.Uart.{incomplete}
 use Rattle.node_rules.proofs.Tidying.{held_holdable, holdable_few, held_held}
+use Rattle.node_port.specs.Internal.Port.{frame_in}
+use Rattle.node_port.proofs.Judging.{fifteen}
 use Rattle.node_gather.specs.declared.Kept.{Kept}
 use Rattle.node_gather.specs.declared.Gathering.{Gathering}
 use Rattle.node_gather.specs.Internal.Gathered.{gathered, start_of, at_once, came_to, gathering_of, gathered_by}
@@ -134,8 +133,11 @@ module _ (q : Receiver) (bs : List ℕ) (from k : ℕ) (w : List ℕ) (tidy : q 
 pub none_at_once : (count : ℕ) (w : List ℕ) → (count ≡ 0 → ⊥) ⊎ (length w ≡ 15 → ⊥) → None ≡ at_once count w
 none_at_once count w (inl m) = sym (cond_false (eqb count 0) _ _ (ne_eqb count 0 m))
 none_at_once count w (inr m) =
-    let few : unwrap_number w 12 ≡ 4 = (unwrap_numbers w 12).1 refl m in
-    sym (ap (λ (k : ℕ). cond (eqb count 0) (cond (eqb k 0) (Some (inner_of w)) None) None) few ∙ cond_same (eqb count 0) None)
+    sym (ap (λ (o : Option (List ℕ)). cond (eqb count 0) o None) (go (rightly_wrapped w) refl) ∙ cond_same (eqb count 0) None)
+  where
+    go : (t : Bool) → rightly_wrapped w ≡ t → frame_in w ≡ None
+    go true h = absurd (m (fifteen w h))
+    go false h = rw h refl
 
 -- a receiver that was tidied is tidy, and holds the same
 pub tidy_receiver : (r q : Receiver) → r ≡ receiving (held_in q) → (r ≡ receiving (held_in r)) × (held_in r ≡ held_in q)
@@ -146,14 +148,13 @@ tidy_receiver r q e =
 -- a right frame
 there : (count : ℕ) (w frame : List ℕ) → at_once count w ≡ Some frame
     → (count ≡ 0) × (length w ≡ 15) × (rightly_wrapped w ≡ true) × (frame ≡ inner_of w)
-there count w frame e = go (eqb count 0) refl (eqb (unwrap_number w 12) 0) refl e
+there count w frame e = go (eqb count 0) refl (rightly_wrapped w) refl e
   where
-    go : (s : Bool) → eqb count 0 ≡ s → (t : Bool) → eqb (unwrap_number w 12) 0 ≡ t → cond s (cond t (Some (inner_of w)) None) None ≡ Some frame
+    go : (s : Bool) → eqb count 0 ≡ s → (t : Bool) → rightly_wrapped w ≡ t → cond s (cond t (Some (inner_of w)) None) None ≡ Some frame
         → (count ≡ 0) × (length w ≡ 15) × (rightly_wrapped w ≡ true) × (frame ≡ inner_of w)
     go true z true u h =
-        let d = unwrap_done w 12 (eqb-true (unwrap_number w 12) 0 u) in
         let q : inner_of w ≡ frame = cc in
-        (eqb-true count 0 z, d.1, d.2, sym q)
+        (eqb-true count 0 z, fifteen w u, u, sym q)
     go true z false u h = cc
     go false z t u h = cc
 

@@ -35,6 +35,7 @@ fn start(count: usize, piece: &[u8]) -> usize
 
 // The frame in the fifteen bytes from `from` on, straight from the piece, where nothing is held. None where something is, or there are
 // fewer bytes, or they are no right frame.
+// Straight from the piece, and not by way of `hold`: docs/DECISIONS.md, D29.
 fn at_once(count: usize, from: usize, piece: &[u8]) -> Option<[u8; 12]>
     requires { from ≤ length piece.now }
     ensures { result ≡ at_once count (part piece.now from 15) }
@@ -42,11 +43,7 @@ fn at_once(count: usize, from: usize, piece: &[u8]) -> Option<[u8; 12]>
     if count != 0 || piece.len() - from < 15 {
         return None;
     }
-    let mut frame = [0u8; 12];
-    match frame_uart::unwrap(&piece[from..from + 15], &mut frame) {
-        Ok(()) => Some(frame),
-        Err(_) => None,
-    }
+    node_port::frame_in(&piece[from..from + 15])
 }
 
 // What fifteen bytes come to.

@@ -1,13 +1,13 @@
 -- Bytes that are held or skipped one after the other, up to the one with which fifteen are held; node_piece/proofs/Judging.antt
 -- shows that a piece gives 10 for each of these but that one, which is judged.
-use Rattle.std.specs.Prelude.{ℕ, suc, cond, List, [], ◌∷◌, eqb, Option, Some, None, Result, Ok, Err}
+use Rattle.std.specs.Prelude.{ℕ, suc, cond, List, [], ◌∷◌, eqb, Option, None, Result, Ok, Err}
 use Rattle.frame_rules.specs.Wrapping.{inner_of, rightly_wrapped}
-use Rattle.frame_rules.specs.Numbers.{unwrap_number}
 use Rattle.node_rules.specs.declared.Choices.{Choices}
 use Rattle.node_rules.specs.declared.Receiver.{Receiver}
 use Rattle.node_rules.specs.declared.Refusal.TheVariants.{Incomplete, BadFrame}
 use Rattle.node_rules.specs.Record.{receiving, held_in}
 use Rattle.node_rules.specs.Uart.{held_with, incomplete, held_after_bad}
+use Rattle.node_port.specs.Internal.Port.{frame_in}
 use Rattle.node_gather.specs.declared.Kept.{Kept}
 use Rattle.node_gather.specs.declared.Gathering.{Gathering}
 
@@ -39,7 +39,7 @@ start_of count bs = cond (eqb count 0) (skip_count bs) 0
 
 -- the frame in fifteen bytes where nothing is held; none where something is, or they aren't fifteen, or no right frame
 abbrev pub at_once : ℕ → List ℕ → Option (List ℕ)
-at_once count w = cond (eqb count 0) (cond (eqb (unwrap_number w 12) 0) (Some (inner_of w)) None) None
+at_once count w = cond (eqb count 0) (frame_in w) None
 
 -- what these held bytes come to: no frame yet, a right frame, or a bad one; and what stays held where it is no right frame
 abbrev pub came_to : Choices → List ℕ → Result (List ℕ) Kept
