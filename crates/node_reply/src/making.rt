@@ -14,16 +14,15 @@ pub fn none() -> Replies<24>
     }
 }
 
-// A reply of this type with these data.
+// A reply of this type with these data. Below 4096: a type has twelve bits, and of more `reply_of` names no bytes.
 pub fn reply(p: Plate, t: u16, d: [u8; 8]) -> [u8; 12]
     requires { t < 4096 }
     ensures { result ≡ reply_of p t d }
 {
-    let first = (t / 16) as u8;
-    let second = (t % 16 * 16 + 1) as u8;
-    [
-        first, second, p.own.0, p.group.0, d[0], d[1], d[2], d[3], d[4], d[5], d[6], d[7],
-    ]
+    let [first, second] = (16 * t + 1).to_be_bytes();
+    let mut frame = [first, second, p.own.0, p.group.0, 0, 0, 0, 0, 0, 0, 0, 0];
+    frame[4..].copy_from_slice(&d);
+    frame
 }
 
 // One reply.
