@@ -5,6 +5,7 @@ use base::byte_at;
 use frame_can::Refusal;
 use memory_address::Address;
 use node_rules::{Choices, Restarted};
+use run_record::begun;
 use run_stream::{lent, number, part, short};
 use std::io;
 use std::io::Write;
@@ -28,15 +29,12 @@ fn restart<W: Write>(
 
 // A plain restart where nothing is said of the way and the default is meant; else the way is chosen.
 fn restart_by(s: &Session, rec: &[u8], flash: &[u8], eeprom: &[u8]) -> Restarted {
-    let pin = handed::pin(byte_at(rec, 1));
+    let pin = begun::pin(byte_at(rec, 1));
     let passed = byte_at(rec, 2) == 0;
-    let way = byte_at(rec, 3);
-    if way == 0 && !s.old {
-        return node::restart(s.node, pin, passed, flash, eeprom);
+    match begun::way(byte_at(rec, 3), s.old) {
+        Some(noise) => node::restart_with(s.node, Choices { pin, noise }, passed, flash, eeprom),
+        None => node::restart(s.node, pin, passed, flash, eeprom),
     }
-    let noise = handed::way(way, s.old);
-    let choices = Choices { pin, noise };
-    node::restart_with(s.node, choices, passed, flash, eeprom)
 }
 
 // A CAN frame, of any length up to 1,024 bytes: the record's, then 0x55.
