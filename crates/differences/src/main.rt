@@ -11,7 +11,8 @@ ghost use Rattle.std.specs.Prelude.{◌≤◌, length};
 
 use std::process::ExitCode;
 
-// The longest recipe, in bytes: Open, 2,046 Blocks of 68 bytes and Leave.
+// The longest recipe, in bytes: Open, 2,046 Blocks of 68 bytes and Leave. Clauses say it, and no type: it would be made once and taken apart
+// at the next call.
 const MOST: usize = 139132;
 
 // The bytes that are asked for: one more, to tell a longer file.

@@ -12,7 +12,7 @@ use std::io::{Error, ErrorKind, Print};
 use std::process::ExitCode;
 use std::{io, str};
 
-// The system's number of the error that an argument is none.
+// The system's number of the error that an argument is none. This and the next are numbers, since by them std prints the system's words.
 const INVALID_ARGUMENT: i32 = 22;
 
 // And of the error that a name is too long.

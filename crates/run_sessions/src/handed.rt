@@ -37,7 +37,7 @@ fn held(s: &[u8]) -> [u8; 15] {
     held
 }
 
-// The count of held bytes: its low byte, and the number above it.
+// The count of held bytes: its low byte, and the number above it. By hand: the five bytes don't lie beside each other.
 fn count(low: u8, high: u32) -> usize {
     high as usize * 256 + low as usize
 }
