@@ -16,7 +16,7 @@ fn silent(taken: usize, refusal: Refusal, n: Node) -> PieceAnswer
 {
     PieceAnswer {
         taken,
-        answer: node_port::silent(refusal, n),
+        answer: node_port::refused(refusal, n),
     }
 }
 

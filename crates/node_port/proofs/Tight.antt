@@ -8,6 +8,12 @@ use Rattle.node_rules.proofs.InNumbers.{same_uart_answer}
 use Rattle.node_port.specs.contracts.silent.{signature as silent-signature}
 use Rattle.node_port.proofs.silent.Kinds as silent-kinds
 use Rattle.node_port.proofs.silent.Reads as silent-reads
+use Rattle.node_port.specs.contracts.in_numbers.{signature as in-numbers-signature}
+use Rattle.node_port.proofs.in_numbers.Kinds as in-numbers-kinds
+use Rattle.node_port.proofs.in_numbers.Reads as in-numbers-reads
+use Rattle.node_port.specs.contracts.refused.{signature as refused-signature}
+use Rattle.node_port.proofs.refused.Kinds as refused-kinds
+use Rattle.node_port.proofs.refused.Reads as refused-reads
 use Rattle.node_port.specs.contracts.is_closed.{signature as is-closed-signature}
 use Rattle.node_port.proofs.is_closed.Kinds as is-closed-kinds
 use Rattle.node_port.proofs.is_closed.Reads as is-closed-reads
@@ -30,7 +36,17 @@ use Rattle.node_port.proofs.held_after_bad.Reads as held-after-bad-reads
 pub silent_tight : (κs : Lfts 0) (a : ArgsD silent-signature κs) (r r' : ResD silent-signature κs)
     (s s' : AtExit (ended_of 0 silent-kinds.ps silent-kinds.r) κs)
     → silent-reads.Post κs a r s → silent-reads.Post κs a r' s' → r ≡ r'
-silent_tight κs a r r' s s' p q = same_uart_answer r r' (p ∙ sym q)
+silent_tight κs a r r' s s' p q = p ∙ sym q
+
+pub in_numbers_tight : (κs : Lfts 0) (a : ArgsD in-numbers-signature κs) (r r' : ResD in-numbers-signature κs)
+    (s s' : AtExit (ended_of 0 in-numbers-kinds.ps in-numbers-kinds.r) κs)
+    → in-numbers-reads.Post κs a r s → in-numbers-reads.Post κs a r' s' → r ≡ r'
+in_numbers_tight κs a r r' s s' p q = p ∙ sym q
+
+pub refused_tight : (κs : Lfts 0) (a : ArgsD refused-signature κs) (r r' : ResD refused-signature κs)
+    (s s' : AtExit (ended_of 0 refused-kinds.ps refused-kinds.r) κs)
+    → refused-reads.Post κs a r s → refused-reads.Post κs a r' s' → r ≡ r'
+refused_tight κs a r r' s s' p q = same_uart_answer r r' (p ∙ sym q)
 
 pub is_closed_tight : (κs : Lfts 0) (a : ArgsD is-closed-signature κs) (r r' : ResD is-closed-signature κs)
     (s s' : AtExit (ended_of 0 is-closed-kinds.ps is-closed-kinds.r) κs)

@@ -9,10 +9,40 @@ ghost use Rattle.node_rules.specs.Uart.{silent_on_uart, is_closed, kept_by, held
 ghost use Rattle.node_rules.specs.InNumbers.{refusal_number, uart_in_numbers};
 ghost use Rattle.node_port.specs.Internal.Port.{listens, frame_in, judged};
 
-use node_rules::{Answer, Choices, Node, Noise, Pin, Receiver, Refusal};
+use node_rules::{Answer, Choices, Node, Noise, Numbered, Pin, Receiver, Refusal};
+
+// No reply, with this number: any.
+pub fn silent(number: u8, n: Node) -> Numbered<30>
+    ensures { result ≡ silent_on_uart number n }
+{
+    Numbered {
+        number,
+        count: 0,
+        replies: [0; 30],
+        node: n,
+    }
+}
+
+// An answer in document 01's numbers: 0 with its replies, or the number of the refusal, with no reply.
+pub fn in_numbers(a: Answer<30>) -> Numbered<30>
+    ensures { result ≡ uart_in_numbers a }
+{
+    match a.outcome {
+        Ok(replies) => {
+            let bytes = replies.bytes;
+            Numbered {
+                number: 0,
+                count: replies.count,
+                replies: bytes,
+                node: a.node,
+            }
+        }
+        Err(refusal) => silent(refusal.number(), a.node),
+    }
+}
 
 // A refusal: no reply.
-pub fn silent(refusal: Refusal, n: Node) -> Answer<30>
+pub fn refused(refusal: Refusal, n: Node) -> Answer<30>
     ensures { uart_in_numbers result ≡ silent_on_uart (refusal_number refusal) n }
 {
     Answer {

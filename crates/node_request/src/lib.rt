@@ -4,21 +4,34 @@
 ghost use Rattle.std.specs.Prelude.{◌≡◌, not, [], ◌∷◌};
 ghost use Rattle.memory_address.specs.Rule.{is_legal};
 ghost use Rattle.node_rules.specs.Requests.{D, address_in, ruled_in, command_at, staged_by, staged_in, does, doing, asked};
-ghost use Rattle.node_rules.specs.Outcomes.{outcome, afterwards, unless, is_nothing, request_outcomes};
+ghost use Rattle.node_rules.specs.Outcomes.{outcome, afterwards, refused, unless, is_nothing, request_outcomes};
 ghost use Rattle.node_rules.specs.InNumbers.{refusal_number};
 ghost use Rattle.node_rules.specs.Internal.Effects.{effect_in_numbers};
 
 use memory_address::{Address, READ, WRITE};
-use node_rules::{Deed, Memory, Mode, Next, Refusal, Reply, Request, Staged};
+use node_rules::{Deed, Effect, Memory, Mode, Next, Refusal, Reply, Request, Staged};
+
+// A refusal by its number, any: no reply, and all as it is, but 8 leaves nothing staged.
+pub fn refuse(number: u8) -> Effect
+    ensures { result ≡ refused number }
+{
+    let mut next = Next::Stays;
+    if number == 8 {
+        next = Next::Programs(Staged::Nothing);
+    }
+    Effect {
+        number,
+        reply: Reply::Silent,
+        memory: Memory::Kept,
+        next,
+    }
+}
 
 // What a refusal leaves of the mode: all as it is, but an illegal address leaves nothing staged.
 pub fn afterwards(r: Refusal) -> Next
     ensures { result ≡ afterwards (refusal_number r) }
 {
-    match r {
-        Refusal::IllegalAddress => Next::Programs(Staged::Nothing),
-        _ => Next::Stays,
-    }
+    refuse(r.number()).next
 }
 
 // Done: with this reply, this becomes of the memories and this of the mode.

@@ -187,6 +187,15 @@ pub struct Deed {
     pub next: Next,
 }
 
+// The same in document 01's numbers, and of a refusal, too: the number, the reply, and what becomes of memories and mode.
+#[derive(Clone, Copy)]
+pub struct Effect {
+    pub number: u8,
+    pub reply: Reply,
+    pub memory: Memory,
+    pub next: Next,
+}
+
 // How many replies, and their bytes; 0 behind them. On CAN N is 24, for two replies of 12 bytes; on UART 30, for two of 15 wrapped bytes.
 // A count beside an array: memory is fixed.
 #[derive(Clone, Copy)]
@@ -199,6 +208,16 @@ pub struct Replies<const N: usize> {
 #[derive(Clone, Copy)]
 pub struct Answer<const N: usize> {
     pub outcome: Result<Replies<N>, Refusal>,
+    pub node: Node,
+}
+
+// An answer in document 01's numbers, any number with any replies: the number, how many replies and their bytes (N is as in `Replies`), and
+// the node.
+#[derive(Clone, Copy)]
+pub struct Numbered<const N: usize> {
+    pub number: u8,
+    pub count: u8,
+    pub replies: [u8; N],
     pub node: Node,
 }
 

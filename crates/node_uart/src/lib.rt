@@ -29,18 +29,18 @@ pub fn uart_byte(node: Node, byte: u8, flash: &mut [u8], eeprom: &mut [u8]) -> A
 {
     let mut n = node_record::tidy(node);
     if let Err(refusal) = node_port::listens(n, flash, eeprom) {
-        return node_port::silent(refusal, n);
+        return node_port::refused(refusal, n);
     }
     let mut r = n.receiver;
     let count = r.count;
     if count == 0 && byte != 0xAA {
-        return node_port::silent(Refusal::Incomplete, n);
+        return node_port::refused(Refusal::Incomplete, n);
     }
     if count < 14 {
         r.held[count] = byte;
         r.count = count + 1;
         n.receiver = r;
-        return node_port::silent(Refusal::Incomplete, n);
+        return node_port::refused(Refusal::Incomplete, n);
     }
     r.held[14] = byte;
     match node_port::judged(n.choices, r.held) {
@@ -50,7 +50,7 @@ pub fn uart_byte(node: Node, byte: u8, flash: &mut [u8], eeprom: &mut [u8]) -> A
         }
         Err(kept) => {
             n.receiver = kept;
-            node_port::silent(Refusal::BadFrame, n)
+            node_port::refused(Refusal::BadFrame, n)
         }
     }
 }

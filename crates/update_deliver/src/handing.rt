@@ -31,9 +31,10 @@ pub fn hand_over(
     for i in 0..count {
         let at = 12 * i;
         let to = 14 * i;
-        let a = node_can::can_frame(n, &frames[at..at + 12], flash, eeprom);
+        let answer = node_can::can_frame(n, &frames[at..at + 12], flash, eeprom);
+        let a = update_telling::in_numbers(answer);
         put(answers, to, update_telling::telling(a));
-        n = a.node;
+        n = answer.node;
     }
     n
 }

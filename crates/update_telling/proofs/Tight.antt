@@ -1,13 +1,21 @@
 -- Any two outcomes that a contract allows for one input are equal: the whole result.
--- The contract is the generated `Reads`: nothing is said of a body.
+-- The contracts are the generated `Reads`: nothing is said of a body.
 use mathlib.Core.Path.{◌≡◌, ◌∙◌, sym}
 use contract.Lifetimes.{Lfts}
 use borrow.Fn.World.{ArgsD, ResD}
 use denote.Triple.Clauses.{AtExit}
 use borrow.Fn.Kinds.{ended_of}
+use Rattle.update_telling.specs.contracts.in_numbers.{signature as in-numbers-signature}
+use Rattle.update_telling.proofs.in_numbers.Kinds as in-numbers-kinds
+use Rattle.update_telling.proofs.in_numbers.Reads as in-numbers-reads
 use Rattle.update_telling.specs.contracts.telling.{signature as telling-signature}
 use Rattle.update_telling.proofs.telling.Kinds as telling-kinds
 use Rattle.update_telling.proofs.telling.Reads as telling-reads
+
+pub in_numbers_tight : (κs : Lfts 0) (a : ArgsD in-numbers-signature κs) (r r' : ResD in-numbers-signature κs)
+    (s s' : AtExit (ended_of 0 in-numbers-kinds.ps in-numbers-kinds.r) κs)
+    → in-numbers-reads.Post κs a r s → in-numbers-reads.Post κs a r' s' → r ≡ r'
+in_numbers_tight κs a r r' s s' p q = p ∙ sym q
 
 pub telling_tight : (κs : Lfts 0) (a : ArgsD telling-signature κs) (r r' : ResD telling-signature κs)
     (s s' : AtExit (ended_of 0 telling-kinds.ps telling-kinds.r) κs)

@@ -10,7 +10,7 @@ use Rattle.node_uart.proofs.uart_byte.Goals.{else-count-eq0-via-then-count-eq0+e
 pub returns-in-Err : goal.returns-in-Err
 returns-in-Err c =
     let a = c.args in
-    rw c.silent.ensures
+    rw c.refused.ensures
     (refused a.node c.tidy-n.result a.byte a.flash.now a.eeprom.now c.in-Err.refusal c.tidy-n.ensures
     (sym c.listens.ensures ∙ c.in-Err.is))
 
@@ -18,7 +18,7 @@ pub returns-then-byte-ne170 : goal.returns-then-byte-ne170
 returns-then-byte-ne170 c =
     let a = c.args in
     let o = listening _ c.tidy-n.result c.in_default.field-0 (sym c.listens.ensures ∙ c.in_default.is) in
-    rw c.silent-then-byte-ne170.ensures
+    rw c.refused-then-byte-ne170.ensures
     (skipped a.node c.tidy-n.result a.byte a.flash.now a.eeprom.now c.tidy-n.ensures o.0 o.1 o.2 c.if-count-eq0.true c.if-byte-ne170.true)
 
 pub returns-then-count-lt14 : goal.returns-then-count-lt14
@@ -31,7 +31,7 @@ returns-then-count-lt14 c =
       | else-count-eq0-via-then-count-eq0+else-byte-ne170 w ↦ inr w.if-byte-ne170.false
       | else-count-eq0-via-else-count-eq0 w ↦ inl w.if-count-eq0.false
     ] in
-    rw c.silent-then-count-lt14.ensures
+    rw c.refused-then-count-lt14.ensures
     (held a.node n a.byte a.flash.now a.eeprom.now c.tidy-n.ensures o.0 o.1 o.2 c.if-count-lt14.true starts)
 
 pub returns-in-Ok : goal.returns-in-Ok
@@ -47,6 +47,6 @@ returns-in-Err-judged c =
     let a = c.args in
     let n = c.tidy-n.result in
     let o = listening _ n c.in_default.field-0 (sym c.listens.ensures ∙ c.in_default.is) in
-    rw c.silent-in-Err-judged.ensures
+    rw c.refused-in-Err-judged.ensures
     (bad a.node n a.byte a.flash.now a.eeprom.now c.tidy-n.ensures o.0 o.1 o.2 c.if-count-lt14.false c.in-Err-judged.kept
     (sym c.judged.ensures ∙ c.in-Err-judged.is))
