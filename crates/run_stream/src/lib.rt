@@ -1,12 +1,12 @@
 // How a stream is taken in: whole pieces, and a shorter one only at the end; the pieces one by one; and parts and numbers of what came.
 #![tactic(auto)]
 
-ghost use Rattle.std.specs.Prelude.{◌≡◌, ◌+◌, ◌<◌, ◌≤◌, IfOk, length, take, drop};
+ghost use Rattle.std.specs.Prelude.{◌≡◌, ◌+◌, ◌<◌, ◌≤◌, IfOk, OnOk, length, take, drop};
 ghost use Rattle.std.specs.Int.{w16, w32, from_be_bytes};
 ghost use Rattle.std.specs.Io.{ReadsAtMost};
 ghost use Rattle.std.specs.Io.KnownBytes.{Consumes, IsAtEnd};
 ghost use Rattle.run_stream.specs.Parts.{place_in};
-ghost use Rattle.run_stream.specs.Pieces.{fewest};
+ghost use Rattle.run_stream.specs.Pieces.{fewest, Whole};
 ghost use Rattle.run_stream.specs.Internal.Filling.{next_cell, filled};
 
 use std::io;
@@ -49,6 +49,7 @@ pub fn each_piece<R: Read, F: FnMut(&mut R, &[u8]) -> io::Result<()>>(
     mut handle: F,
 ) -> io::Result<()>
     requires { F.IsAlwaysCallable handle }
+    ensures { OnOk result (Whole F.FnMut R.remaining (length piece.old) handle input.old input.new) }
 {
     let fewest = fewest(piece.len());
     for _ in 0..0xFFFFFFFFu32 {
