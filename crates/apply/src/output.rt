@@ -8,12 +8,22 @@ use std::io;
 use std::io::Print;
 use std::process::ExitCode;
 
+// The upper-case hex digits.
+const DIGITS: [u8; 16] = *b"0123456789ABCDEF";
+
+// Prints a blank and the byte as a pair of digits. By hand: a `print!` for each byte would take most of a run.
+fn print_pair(rt: &HostRuntime, b: u8) -> io::Result<()> {
+    let high = DIGITS[(b / 16) as usize];
+    let low = DIGITS[(b % 16) as usize];
+    rt.write_all(&[b' ', high, low])
+}
+
 // Prints a frame's line: the number and, where there is one, the reply, the last 12 of the 14 bytes that are told of the frame.
 fn print_line(rt: &HostRuntime, told: &[u8]) -> io::Result<()> {
     rt.print(base::byte_at(told, 0))?;
     if base::byte_at(told, 1) > 0 {
         for b in told.iter().skip(2) {
-            print!(rt; " {b:02X}")?;
+            print_pair(rt, *b)?;
         }
     }
     rt.write_all(b"\n")

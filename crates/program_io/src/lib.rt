@@ -5,6 +5,7 @@ pub mod output;
 
 ghost use Rattle.std.specs.Prelude.{◌≡◌, ℕ, ◌<◌, ◌≤◌, IsTrue, Ok, Err, Some, None, IfSome, length};
 ghost use Rattle.std.specs.Io.{ReadsAtMost, WritesAtMost};
+ghost use Rattle.program_io.specs.Ending.{EndsBy, EndsUnwritten};
 
 use std::env::{Env, FillError};
 use std::fs::File;
@@ -87,7 +88,10 @@ pub fn fail(rt: &HostRuntime, what: &[u8], error: Error) {
 
 // The status that a program ends with where output can't be written: 0, with a message under this name. But where nobody reads it the
 // status alone tells of it.
-pub fn unwritten(rt: &HostRuntime, what: &[u8], error: Error) -> ExitCode {
+pub fn unwritten(rt: &HostRuntime, what: &[u8], error: Error) -> ExitCode
+    ensures by_error { EndsBy error result }
+    ensures ends { EndsUnwritten result }
+{
     if error.kind() == ErrorKind::BrokenPipe {
         return ExitCode::from(UNREAD);
     }

@@ -1,15 +1,42 @@
 // Answers written down: into the digest, and as a line in full where the session still prints those.
 use crate::session::Session;
 use node_rules::{Node, Noise};
+use run_stream::part;
 use std::io;
 use std::io::Write;
 
-// Prints bytes as hex digits.
-fn print<W: Write>(printer: &mut W, bytes: &[u8]) -> io::Result<()> {
+// The lower-case hex digits.
+const DIGITS: [u8; 16] = *b"0123456789abcdef";
+
+// The room of a line, which no answer fills: the longest has 67 bytes, of two digits each.
+const LINE: usize = 256;
+
+// Spells bytes as pairs of hex digits into a line, from `from` on; answers the place behind them.
+fn spell(line: &mut [u8], from: usize, bytes: &[u8]) -> usize {
+    let mut at = from;
     for byte in bytes {
-        write!(printer, "{byte:02x}")?;
+        let high = DIGITS[(byte / 16) as usize];
+        let low = DIGITS[(byte % 16) as usize];
+        base::put(line, at, &[high, low]);
+        at = at.saturating_add(2);
     }
-    Ok(())
+    at
+}
+
+// Prints the bytes of four pieces as a line of hex digits. By hand: a `write!` for each byte would take longer than all else of a line.
+fn print<W: Write>(
+    printer: &mut W,
+    head: &[u8],
+    second: &[u8],
+    third: &[u8],
+    last: &[u8],
+) -> io::Result<()> {
+    let mut line = [b'\n'; LINE];
+    let at = spell(&mut line, 0, head);
+    let at = spell(&mut line, at, second);
+    let at = spell(&mut line, at, third);
+    let at = spell(&mut line, at, last);
+    printer.write_all(part(&line, 0, at.saturating_add(1)))
 }
 
 // The session after an event whose answer bytes, the kind in front, come in two pieces.
@@ -32,11 +59,7 @@ fn write_four<W: Write>(
     last: &[u8],
 ) -> io::Result<Session> {
     if 0 < s.full {
-        print(printer, head)?;
-        print(printer, second)?;
-        print(printer, third)?;
-        print(printer, last)?;
-        writeln!(printer)?;
+        print(printer, head, second, third, last)?;
     }
     let digest = run_digest::with_bytes(s.digest, head);
     let digest = run_digest::with_bytes(digest, second);

@@ -1,10 +1,12 @@
 // How a stream is taken in: whole pieces, and a shorter one only at the end; the pieces one by one; and parts and numbers of what came.
 #![tactic(auto)]
 
-ghost use Rattle.std.specs.Prelude.{◌≡◌, ◌+◌, ◌<◌, ◌≤◌, IfOk, length, take, drop};
+ghost use Rattle.std.specs.Prelude.{◌≡◌, ◌+◌, ◌<◌, ◌≤◌, IfOk, OnOk, length, take, drop};
 ghost use Rattle.std.specs.Int.{w16, w32, from_be_bytes};
 ghost use Rattle.std.specs.Io.{ReadsAtMost};
 ghost use Rattle.std.specs.Io.KnownBytes.{Consumes, IsAtEnd};
+ghost use Rattle.run_stream.specs.Parts.{place_in};
+ghost use Rattle.run_stream.specs.Pieces.{fewest, Whole};
 ghost use Rattle.run_stream.specs.Internal.Filling.{next_cell, filled};
 
 use std::io;
@@ -31,7 +33,15 @@ pub fn read_full<R: Read>(input: &mut R, bytes: &mut [u8]) -> io::Result<usize>
     Ok(done)
 }
 
-// Reads the stream piece by piece, as many bytes as `piece` has or, at the end, fewer, and has each handled, until no whole record comes.
+// Fewer bytes than this end a stream that is read in pieces of so many: than a record where a piece is no longer than one, else than one.
+fn fewest(room: usize) -> usize
+    ensures { result ≡ fewest room }
+{
+    if room <= RECORD { RECORD } else { 1 }
+}
+
+// Reads the stream piece by piece, as many bytes as `piece` has or, at the end, fewer, and has each handled. A piece of one record ends the
+// stream where it isn't whole; a longer one ends it only where nothing comes, however few bytes came before.
 // A loop has to end, so turns are counted, up to a number that no stream uses up.
 pub fn each_piece<R: Read, F: FnMut(&mut R, &[u8]) -> io::Result<()>>(
     input: &mut R,
@@ -39,10 +49,12 @@ pub fn each_piece<R: Read, F: FnMut(&mut R, &[u8]) -> io::Result<()>>(
     mut handle: F,
 ) -> io::Result<()>
     requires { F.IsAlwaysCallable handle }
+    ensures { OnOk result (Whole F.FnMut R.remaining (length piece.old) handle input.old input.new) }
 {
+    let fewest = fewest(piece.len());
     for _ in 0..0xFFFFFFFFu32 {
         let n = read_full(input, piece)?;
-        if n < RECORD {
+        if n < fewest {
             break;
         }
         handle(input, &piece[..n])?;
@@ -50,18 +62,20 @@ pub fn each_piece<R: Read, F: FnMut(&mut R, &[u8]) -> io::Result<()>>(
     Ok(())
 }
 
-// The n bytes from `from` on, or as many as there are.
+// The n bytes from `from` on, or as many as there are: those bytes themselves, where they lie.
 pub fn part(bytes: &[u8], from: usize, n: usize) -> &[u8]
-    ensures { result.now ≡ take n (drop from bytes.now) }
+    ensures bytes { result.now ≡ take n (drop from bytes.now) }
+    ensures place { result.ref_ptr ≡ place_in bytes.entry from }
 {
     let from = from.min(bytes.len());
     let rest = &bytes[from..];
     &rest[..n.min(rest.len())]
 }
 
-// The first n bytes, to be written, or as many as there are.
+// The first n bytes, to be written, or as many as there are: those bytes themselves, where they lie.
 pub fn lent(bytes: &mut [u8], n: usize) -> &mut [u8]
-    ensures { result.now ≡ take n bytes.old }
+    ensures bytes { result.now ≡ take n bytes.old }
+    ensures place { result.ref_ptr ≡ bytes.entry.ref_ptr }
 {
     let n = n.min(bytes.len());
     &mut bytes[..n]

@@ -6,7 +6,7 @@ pub returns-in-Some-clause-cut : goal.returns-in-Some-clause-cut
 returns-in-Some-clause-cut c =
     λ cut.
     let bytes = c.args.bytes.now in
-    let left = ap length c.part.ensures in
+    let left = ap length c.part.ensures.bytes in
     absurd (omega (
       arith,
       cut,
