@@ -1,8 +1,8 @@
 -- A piece on the tidied record: each law is one return of `uart_piece`. 1, 2 and 3 take no byte; else the bytes are gathered, and what is then
--- held is judged.
+-- held is judged. Tidying makes no difference to 1, 2 and 3, to what is gathered, and to a frame where nothing is held.
 -- Assumes nothing.
 use mathlib.Core.Path.{◌≡◌, ◌∙◌, refl, sym, ap}
-use mathlib.Core.Bool.{Bool, true, false, cond}
+use mathlib.Core.Bool.{Bool, true, false, not, cond}
 use mathlib.Core.List.{List, []}
 use mathlib.Core.Logic.{◌⊎◌, ⊎_elim, inl, inr}
 use Prim.Native.Nat.{ℕ}
@@ -14,13 +14,18 @@ use Rattle.node_rules.specs.declared.Choices.{Choices}
 use Rattle.node_rules.specs.declared.Receiver.{Receiver}
 use Rattle.node_rules.specs.declared.Node.{Node}
 use Rattle.node_rules.specs.declared.Refusal.{Refusal}
-use Rattle.node_rules.specs.declared.Refusal.TheVariants.{Incomplete, BadFrame}
+use Rattle.node_rules.specs.declared.Refusal.TheVariants.{WrongLength, ClosedPort, TakesNoFrame, Incomplete, BadFrame}
+use Rattle.node_rules.specs.declared.Staged.TheVariants.{Nothing}
+use Rattle.node_rules.specs.declared.Mode.TheVariants.{Programming}
 use Rattle.node_rules.specs.InNumbers.{refusal_number}
-use Rattle.node_rules.specs.Record.{receiving, holding, held_of, tidied}
-use Rattle.node_rules.specs.Step.{can_step}
-use Rattle.node_rules.specs.Uart.{UartStep, incomplete, held_after_bad, via_uart, silent}
-use Rattle.node_rules.proofs.Tidying.{tidy_held}
-use Rattle.node_record.proofs.Tidied.{with_receiver}
+use Rattle.node_rules.specs.Record.{receiving, holding, held_of, with_mode, tidied}
+use Rattle.node_rules.specs.Outcomes.{decided}
+use Rattle.node_rules.specs.Step.{done, can_step}
+use Rattle.node_rules.specs.Uart.{UartStep, is_closed, incomplete, held_after_bad, via_uart, silent}
+use Rattle.node_rules.proofs.Tidying.{tidy_held, held_held, holding_tidy, tidied_mode}
+use Rattle.node_rules.proofs.Modes.{tidy_deaf}
+use Rattle.node_record.specs.Internal.Tidy.{is_tidy}
+use Rattle.node_record.proofs.Tidied.{with_receiver, kept_tidied, lost_tidied}
 use Rattle.node_port.specs.Internal.Port.{listens}
 use Rattle.node_port.proofs.Hearing.{listening}
 use Rattle.node_uart.proofs.Listening.{refused as byte_refused}
@@ -30,7 +35,49 @@ use Rattle.node_piece_rules.proofs.Answering.{refused_takes_none}
 use Rattle.node_gather.specs.declared.Kept.{Kept}
 use Rattle.node_gather.specs.declared.Gathering.{Gathering}
 use Rattle.node_gather.specs.Internal.Gathered.{gathered, came_to, gathering_of, gathered_by}
+use Rattle.node_piece.specs.Internal.Answers.{receives}
 use Rattle.node_piece.proofs.Judging.{piece_gathered}
+
+-- ---- tidying makes no difference
+
+pub listens_tidied : (isFull : Bool) (n : Node) → listens isFull (tidied n) ≡ listens isFull n
+unfolding tidied
+listens_tidied isFull n =
+    ap (λ (d : Bool).
+    cond (not isFull) (Err WrongLength) (cond (is_closed n.choices.pin) (Err ClosedPort) (cond d (Err TakesNoFrame) (Ok tt))))
+    (tidy_deaf n.mode)
+
+pub gathered_tidied : (n : Node) (bs : List ℕ)
+    → gathered_by n.choices n.receiver bs ≡ gathered_by (tidied n).choices (tidied n).receiver bs
+unfolding tidied
+gathered_tidied n bs = ap (λ (xs : List ℕ). gathering_of n.choices (gathered xs bs)) (sym (tidy_held n))
+
+emptied_tidy : (n : Node) → tidied (holding n []) ≡ holding (tidied n) []
+unfolding tidied
+emptied_tidy n = ap (holding (tidied n)) (held_held [] tt)
+
+frame_when_empty : (n : Node) (f flash eeprom : List ℕ)
+    → can_step (holding n []) f flash eeprom ≡ can_step (holding (tidied n) []) f flash eeprom
+unfolding can_step
+frame_when_empty n f flash eeprom =
+    ap (λ (x : Node). done (decided x (full flash eeprom) f) x f flash eeprom)
+    (emptied_tidy n ∙ sym (holding_tidy (tidied n) [] tt (tidied_mode n)))
+
+pub frame_tidied : (n : Node) (none : Receiver) (f flash eeprom : List ℕ) → none ≡ receiving []
+    → can_step (with_receiver n none) f flash eeprom ≡ can_step (with_receiver (tidied n) none) f flash eeprom
+frame_tidied n none f flash eeprom m =
+    ap (λ (r : Receiver). can_step (with_receiver n r) f flash eeprom) m ∙ frame_when_empty n f flash eeprom
+    ∙ ap (λ (r : Receiver). can_step (with_receiver (tidied n) r) f flash eeprom) (sym m)
+
+-- a record whose mode is kept where it is tidy, and which holds something else, is the tidied record that holds that
+module _ (n : Node) (r : Receiver) where
+  pub kept_as_tidied : is_tidy n.mode ≡ true → with_receiver n r ≡ receives n r
+  kept_as_tidied t = ap (λ (x : Node). with_receiver x r) (kept_tidied n (receiving (held_of n)) refl t)
+
+  pub lost_as_tidied : is_tidy n.mode ≡ false → with_mode (with_receiver n r) (Programming Nothing) ≡ receives n r
+  lost_as_tidied t = ap (λ (x : Node). with_receiver x r) (lost_tidied n (receiving (held_of n)) refl t)
+
+-- ---- the returns
 
 -- with so many bytes taken
 abbrev taking : ℕ → UartStep → PieceStep

@@ -17,7 +17,8 @@ pub fn with_mode(n: Node, m: Mode) -> Node
 }
 
 // The tidied record: an illegal staged command is none, more than 14 held bytes or held bytes not starting with 0xAA are none, and
-// unused room is 0.
+// unused room is 0. As a call of its own it would cost each call that tidies a copy of the record (docs/DECISIONS.md, D16).
+#[inline(always)]
 pub fn tidy(node: Node) -> Node
     ensures { result ≡ tidied node }
 {
