@@ -9,7 +9,9 @@ ghost use Rattle.node_rules.specs.InNumbers.{uart_in_numbers};
 
 use node_rules::{Answer, Node, Refusal};
 
-// A complete frame goes the way of a CAN frame, its replies wrapped. A refusal leaves what that of a CAN frame leaves.
+// A complete frame goes the way of a CAN frame, its replies wrapped. A refusal leaves what that of a CAN frame leaves. As a call of its own
+// it would copy the answer twice (docs/DECISIONS.md, D16).
+#[inline(always)]
 pub fn obeyed(node: Node, frame: &[u8], flash: &mut [u8], eeprom: &mut [u8]) -> Answer<30>
     ensures { uart_after (uart_in_numbers result) flash.new eeprom.new
         ≡ via_uart (can_step node frame.now flash.old eeprom.old) }
