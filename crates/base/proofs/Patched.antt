@@ -6,7 +6,7 @@ use mathlib.Core.Logic.{◌⊎◌, ⊎_elim}
 use Prim.Native.Nat.{ℕ, ◌+◌, ◌-◌, ◌≤◌, ◌<◌}
 use native.Mathlib.Nat.{add-sub_cancel_left, add_assoc}
 use native.Mathlib.Omega.{arith}
-use borrow.Author.Tests.{le-leb}
+use borrow.Author.Tests.{le-leb, lt-leb}
 use lib.ListN.{length, get_or, take, drop, length-append, length-take, length-drop, get_or-append}
 use lib.Seq.{drop-drop, get_or-append-add, get_or-take, get_or-drop, length-take-le, take_at, drop_at}
 use Rattle.base.specs.Parts.{part, patch}
@@ -30,6 +30,11 @@ put_back m a k ys new e l = simp (add-sub_cancel_left, drop-drop, e, l)
 pub put_fits : (m : List ℕ) (a : ℕ) (new : List ℕ) → a + length new ≤ length m → put_at m a new ≡ patch m a new
 unfolding put_at
 put_fits m a new h = simp (le-leb _ _ h)
+
+-- where it doesn't fit all stays
+pub put_not : (m : List ℕ) (a : ℕ) (new : List ℕ) → length m < a + length new → put_at m a new ≡ m
+unfolding put_at
+put_not m a new h = simp (lt-leb _ _ h)
 
 module _ (m : List ℕ) (a : ℕ) (new : List ℕ) (fits : a + length new ≤ length m) where
   pub length_patch : length (patch m a new) ≡ length m
