@@ -5,7 +5,7 @@ pub mod output;
 
 ghost use Rattle.std.specs.Prelude.{◌≡◌, ℕ, ◌<◌, ◌≤◌, IsTrue, Ok, Err, Some, None, IfSome, length};
 ghost use Rattle.std.specs.Io.{ReadsAtMost, WritesAtMost};
-ghost use Rattle.program_io.specs.Ending.{EndsBy, EndsUnwritten};
+ghost use Rattle.program_io.specs.Internal.Ending.{EndsBy, EndsUnwritten};
 
 use std::env::{Env, FillError};
 use std::fs::File;

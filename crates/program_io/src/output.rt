@@ -2,7 +2,7 @@
 // Where writing does not go well it answers the status that the program ends with, and a message tells of it where there is one.
 ghost use Rattle.std.specs.Prelude.{OnOk, IfErr};
 ghost use Rattle.std.specs.Io.KnownBytes.{Appends};
-ghost use Rattle.program_io.specs.Ending.{EndsUnwritten};
+ghost use Rattle.program_io.specs.Internal.Ending.{EndsUnwritten};
 
 use crate::{LONGEST_NAME, arg, arg_count, open_overwrite, tell, unwritten};
 use std::io::Write;

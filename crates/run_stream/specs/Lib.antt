@@ -1,3 +1,1 @@
-pub mod Parts
-pub mod Pieces
 pub mod Internal

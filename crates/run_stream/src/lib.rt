@@ -5,8 +5,8 @@ ghost use Rattle.std.specs.Prelude.{◌≡◌, ◌+◌, ◌<◌, ◌≤◌, IfOk
 ghost use Rattle.std.specs.Int.{w16, w32, from_be_bytes};
 ghost use Rattle.std.specs.Io.{ReadsAtMost};
 ghost use Rattle.std.specs.Io.KnownBytes.{Consumes, IsAtEnd};
-ghost use Rattle.run_stream.specs.Parts.{place_in};
-ghost use Rattle.run_stream.specs.Pieces.{fewest, Whole};
+ghost use Rattle.run_stream.specs.Internal.Parts.{place_in};
+ghost use Rattle.run_stream.specs.Internal.Pieces.{fewest, Whole};
 ghost use Rattle.run_stream.specs.Internal.Filling.{next_cell, filled};
 
 use std::io;

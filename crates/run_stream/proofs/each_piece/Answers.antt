@@ -3,7 +3,7 @@ use Rattle.std.proofs.Common.{arith, refl, ◌≡◌, ℕ, ◌+◌, ◌<◌, ◌
 use denote.Param.Always.{mut_next}
 use Rattle.std.specs.Fn.{Mut}
 use Rattle.std.specs.Io.KnownBytes.{Consumes, IsAtEnd}
-use Rattle.run_stream.specs.Pieces.{Piece, Turn, Turns}
+use Rattle.run_stream.specs.Internal.Pieces.{Piece, Turn, Turns}
 use Rattle.run_stream.proofs.each_piece.Goals as goal
 use Rattle.run_stream.proofs.each_piece.Goals.{else-loop-test, then-loop-test+in_ok-n+then-n-fewest}
 

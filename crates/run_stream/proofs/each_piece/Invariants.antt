@@ -1,7 +1,7 @@
 -- So many pieces were handled as turns were counted.
 use Rattle.std.proofs.Common.{length}
 use denote.Param.Always.{always_mut}
-use Rattle.run_stream.specs.Pieces.{Turns}
+use Rattle.run_stream.specs.Internal.Pieces.{Turns}
 use Rattle.run_stream.proofs.each_piece.Given as goal
 
 abbrev pub invariant-loop : goal.invariant-loop

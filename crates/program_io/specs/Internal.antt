@@ -1,0 +1,2 @@
+-- What is the code's own shape: the words of contracts inside, which no cited statement rests on.
+pub mod Ending
