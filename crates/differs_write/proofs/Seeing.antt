@@ -3,7 +3,7 @@
 -- end that is the definition's answer.
 -- Assumes nothing.
 use mathlib.Core.Path.{◌≡◌, ◌∙◌, refl, sym, ap, ap₂, subst}
-use mathlib.Core.Bool.{Bool, true, false, cond, false≢true}
+use mathlib.Core.Bool.{Bool, true, false, not, cond, false≢true}
 use mathlib.Core.List.{List, [], ◌∷◌, ◌++◌, append-nil, append_assoc}
 use Prim.Native.Nat.{ℕ, zero, suc, ◌+◌, ◌*◌, ◌≤◌, ◌<◌, zero-le}
 use native.Mathlib.Omega.{arith}
@@ -15,7 +15,7 @@ use lib.ListN.{length, get_or, set, take, drop, replicate, length-set, length-re
 use lib.Seq.{get_or-set_same, get_or-set_other, set_out, take-set-le, take-suc-set}
 use borrow.Author.Tests.{eqb-true, eqb-false, ne_eqb, ltb-true, ltb-false}
 use Rattle.base.specs.Parts.{Bytes, part}
-use Rattle.base.proofs.Choice.{by_cond, cond_false}
+use Rattle.base.proofs.Choice.{by_cond, cond_true, cond_false}
 use Rattle.memory_address.specs.Places.{flash_cells}
 use Rattle.recipe.specs.Translation.{Refused as Fault, answer_at, checked}
 use Rattle.recipe.specs.Items.{Item, printed, opened}
@@ -31,7 +31,7 @@ use Rattle.differs_rules.proofs.Keeping.{kept_append, left_append, blocks_append
 use Rattle.differs_write.specs.declared.walk.Walk.{Walk}
 use Rattle.differs_write.specs.Internal.Cutting.{Upward}
 use Rattle.differs_write.specs.Internal.Standing.{AtBlock}
-use Rattle.differs_write.specs.Internal.Steps.{keeps_at, last_after, erases_of_kind, next_walk, FoundKept}
+use Rattle.differs_write.specs.Internal.Steps.{differs_at, remembered_at, keeps_at, last_after, erases_of_kind, next_walk, FoundKept}
 use Rattle.differs_write.proofs.Cutting.{cut_to, upward_more, upward_last, cut_more, cut_last, cut_all}
 use Rattle.differs_write.proofs.Showing.{Shows, shows_start}
 use Rattle.differs_write.proofs.Turning.{Turned, written, turned, at_block}
@@ -287,10 +287,25 @@ module _ {s image : List ℕ} {last : List (Option ℕ)} {places : List ℕ} {w 
           byted = λ _. all-bytes;
         }
 
-    pub seen_next : (r : Bool) (last' : List (Option ℕ)) (w' : Walk) → r ≡ keeps_at s w.place image last → last' ≡ last_after s w.place last
+    seen_next : (r : Bool) (last' : List (Option ℕ)) (w' : Walk) → r ≡ keeps_at s w.place image last → last' ≡ last_after s w.place last
         → w' ≡ next_walk w (get_or s w.place 0) r → Seen s image last' (set places w.dropped w.place) w'
     seen_next r last' w' p q e =
         let step : w' ≡ next_walk w (kind_of t) turn.keeps =
         e ∙ ap₂ (λ (x : ℕ) (b : Bool). next_walk w x b) (sym (kind_at s w.place)) (p ∙ turn.said) in
         subst (λ (l : List (Option ℕ)). Seen s image l (set places w.dropped w.place) w') (sym q)
         (subst (Seen s image (last_after s w.place last) (set places w.dropped w.place)) (sym step) seen_turned)
+
+    -- behind a Block whose cells stand already, or not
+    pub seen_next_block : (r : Bool) (last' : List (Option ℕ)) (w' : Walk) → eqb (get_or s w.place 0) 0x02 ≡ true
+        → not r ≡ differs_at s w.place image last → last' ≡ remembered_at s w.place last
+        → w' ≡ next_walk w (get_or s w.place 0) (not r) → Seen s image last' (set places w.dropped w.place) w'
+    seen_next_block r last' w' b p q e =
+        seen_next (not r) last' w' (p ∙ sym (cond_true (eqb (get_or s w.place 0) 0x02) (differs_at s w.place image last) true b))
+        (q ∙ sym (cond_true (eqb (get_or s w.place 0) 0x02) (remembered_at s w.place last) last b)) e
+
+    -- behind another item
+    pub seen_next_other : (w' : Walk) → eqb (get_or s w.place 0) 0x02 ≡ false → w' ≡ next_walk w (get_or s w.place 0) true
+        → Seen s image last (set places w.dropped w.place) w'
+    seen_next_other w' b e =
+        seen_next true last w' (sym (cond_false (eqb (get_or s w.place 0) 0x02) (differs_at s w.place image last) true b))
+        (sym (cond_false (eqb (get_or s w.place 0) 0x02) (remembered_at s w.place last) last b)) e
