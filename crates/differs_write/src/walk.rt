@@ -1,5 +1,5 @@
 // The walk over a recipe's items: each is looked at for a fault, and whether it is kept.
-ghost use Rattle.std.specs.Prelude.{◌≡◌, ◌≤◌, length, eqb, replicate, None};
+ghost use Rattle.std.specs.Prelude.{◌≡◌, ◌≤◌, length, eqb, replicate};
 ghost use Rattle.memory_address.specs.Places.{flash_cells};
 ghost use Rattle.differs_write.specs.Internal.Steps.{erases_of_kind, next_walk, Small, Found};
 
@@ -73,10 +73,10 @@ fn is_block(kind: u8) -> bool
 pub fn look_over(
     recipe: &[u8],
     image: &[u8],
-    last: &mut [Option<u32>],
+    last: &mut [u32],
     places: &mut [u32],
 ) -> Result<Walk, Refusal>
-    requires { (length image.now ≡ flash_cells) × (last.old ≡ replicate 1024 None) × (length places.old ≡ 2048) }
+    requires { (length image.now ≡ flash_cells) × (last.old ≡ replicate 1024 0) × (length places.old ≡ 2048) }
     ensures { Found recipe.now image.now result places.new }
 {
     let mut w = START;
