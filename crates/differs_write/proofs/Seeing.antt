@@ -3,11 +3,10 @@
 -- end that is the definition's answer.
 -- Assumes nothing.
 use mathlib.Core.Path.{◌≡◌, ◌∙◌, refl, sym, ap, ap₂, subst}
-use mathlib.Core.Bool.{Bool, true, false, cond, false≢true}
+use mathlib.Core.Bool.{Bool, true, false, not, cond, false≢true}
 use mathlib.Core.List.{List, [], ◌∷◌, ◌++◌, append-nil, append_assoc}
 use Prim.Native.Nat.{ℕ, zero, suc, ◌+◌, ◌*◌, ◌≤◌, ◌<◌, zero-le}
 use native.Mathlib.Omega.{arith}
-use Rattle.std.proofs.Common.{Option, Some, None, IfSome}
 use native.Mathlib.Nat.{add-zero, le_refl}
 use native.Mathlib.Numerals.{add-one}
 use lib.Dec.{eqb, ltb}
@@ -15,7 +14,7 @@ use lib.ListN.{length, get_or, set, take, drop, replicate, length-set, length-re
 use lib.Seq.{get_or-set_same, get_or-set_other, set_out, take-set-le, take-suc-set}
 use borrow.Author.Tests.{eqb-true, eqb-false, ne_eqb, ltb-true, ltb-false}
 use Rattle.base.specs.Parts.{Bytes, part}
-use Rattle.base.proofs.Choice.{by_cond, cond_false}
+use Rattle.base.proofs.Choice.{by_cond, cond_true, cond_false}
 use Rattle.memory_address.specs.Places.{flash_cells}
 use Rattle.recipe.specs.Translation.{Refused as Fault, answer_at, checked}
 use Rattle.recipe.specs.Items.{Item, printed, opened}
@@ -31,16 +30,12 @@ use Rattle.differs_rules.proofs.Keeping.{kept_append, left_append, blocks_append
 use Rattle.differs_write.specs.declared.walk.Walk.{Walk}
 use Rattle.differs_write.specs.Internal.Cutting.{Upward}
 use Rattle.differs_write.specs.Internal.Standing.{AtBlock}
-use Rattle.differs_write.specs.Internal.Steps.{keeps_at, last_after, erases_of_kind, next_walk, FoundKept}
+use Rattle.differs_write.specs.Internal.Steps.{differs_at, remembered_at, keeps_at, last_after, erases_of_kind, next_walk, FoundKept}
 use Rattle.differs_write.proofs.Cutting.{cut_to, upward_more, upward_last, cut_more, cut_last, cut_all}
 use Rattle.differs_write.proofs.Showing.{Shows, shows_start}
 use Rattle.differs_write.proofs.Turning.{Turned, written, turned, at_block}
 
--- what the table says of a block is no place behind this one
-abbrev Before : Option ℕ → ℕ → Type 0
-Before o place = IfSome o (λ from. from ≤ place)
-
-pub record Seen (s image : List ℕ) (last : List (Option ℕ)) (places : List ℕ) (w : Walk) : Type 0 where
+pub record Seen (s image last places : List ℕ) (w : Walk) : Type 0 where
   pub items : List Item
   pub read : reading s ≡ with_items items (read_on s w.place w.number w.ended)
   pub shows : Shows s image last (left_by_all items image)
@@ -57,27 +52,27 @@ pub record Seen (s image : List ℕ) (last : List (Option ℕ)) (places : List �
   pub fewer_erases : w.erases < w.number
   pub table : length last ≡ 1024
   pub room : length places ≡ 2048
-  pub before : (b : ℕ) → Before (get_or last b None) w.place
+  pub before : (b : ℕ) → get_or last b 0 ≤ w.place
   pub byted : w.ended ≡ true → Bytes s
 
-all_none : (n b : ℕ) → get_or (replicate {A = Option ℕ} n None) b None ≡ None
-all_none zero b = refl
-all_none (suc n) zero = refl
-all_none (suc n) (suc b) = all_none n b
+all_zero : (n b : ℕ) → get_or (replicate n 0) b 0 ≤ 0
+all_zero zero b = zero-le
+all_zero (suc n) zero = zero-le
+all_zero (suc n) (suc b) = all_zero n b
 
-blocks_1024 : length {A = Option ℕ} (replicate 1024 None) ≡ 1024
-blocks_1024 = length-replicate {A = Option ℕ} 1024 None
+blocks_1024 : length {A = ℕ} (replicate 1024 0) ≡ 1024
+blocks_1024 = length-replicate {A = ℕ} 1024 0
 
 abbrev start : Walk
 start = record { place = 0; number = 1; ended = false; dropped = 0; erases = 0 }
 
-pub seen_start : (s image : List ℕ) (last : List (Option ℕ)) (places : List ℕ) → length image ≡ flash_cells → last ≡ replicate 1024 None → length places ≡ 2048
+pub seen_start : (s image last places : List ℕ) → length image ≡ flash_cells → last ≡ replicate 1024 0 → length places ≡ 2048
     → Seen s image last places start
 unfolding left_by_all kept_items block_count
 seen_start s image last places l z p = record {
   items = [];
   read = read_start s;
-  shows = subst (λ (x : List (Option ℕ)). Shows s image x image) (sym z) (shows_start s image l);
+  shows = subst (λ (x : List ℕ). Shows s image x image) (sym z) (shows_start s image l);
   bytes = refl;
   blocks = refl;
   upward = zero-le;
@@ -91,25 +86,20 @@ seen_start s image last places l z p = record {
   fewer_erases = omega arith;
   table = ap length z ∙ blocks_1024;
   room = p;
-  before = λ b. subst (λ (x : List (Option ℕ)). Before (get_or x b None) 0) (sym z) (subst (λ (o : Option ℕ). Before o 0) (sym (all_none 1024 b)) tt);
+  before = λ b. subst (λ (x : List ℕ). get_or x b 0 ≤ 0) (sym z) (all_zero 1024 b);
   byted = λ e. absurd (false≢true e);
 }
 
 -- an element set is no greater, where neither it nor the others were
-set_below : (l : List (Option ℕ)) (i v b n : ℕ) → v ≤ n → Before (get_or l b None) n → Before (get_or (set l i (Some v)) b None) n
+set_below : (l : List ℕ) (i v b n : ℕ) → v ≤ n → get_or l b 0 ≤ n → get_or (set l i v) b 0 ≤ n
 set_below l i v b n h k = go (eqb b i) refl (ltb i (length l)) refl
   where
-    go : (t : Bool) → eqb b i ≡ t → (u : Bool) → ltb i (length l) ≡ u → Before (get_or (set l i (Some v)) b None) n
-    go false e u q = subst (λ (x : Option ℕ). Before x n) (sym (get_or-set_other l i b (Some v) None (eqb-false b i e))) k
+    go : (t : Bool) → eqb b i ≡ t → (u : Bool) → ltb i (length l) ≡ u → get_or (set l i v) b 0 ≤ n
+    go false e u q = subst (λ (x : ℕ). x ≤ n) (sym (get_or-set_other l i b v 0 (eqb-false b i e))) k
     go true e true q =
-        subst (λ (x : ℕ). Before (get_or (set l i (Some v)) x None) n) (sym (eqb-true b i e))
-        (subst (λ (x : Option ℕ). Before x n) (sym (get_or-set_same l i (Some v) None (ltb-true i (length l) q))) h)
-    go true e false q = subst (λ (x : List (Option ℕ)). Before (get_or x b None) n) (sym (set_out l i (Some v) (ltb-false i (length l) q))) k
-
--- a place further on
-before_more : (o : Option ℕ) (m n : ℕ) → Before o m → m ≤ n → Before o n
-before_more None m n h l = tt
-before_more (Some from) m n h l = omega (arith, h, l)
+        subst (λ (x : ℕ). get_or (set l i v) x 0 ≤ n) (sym (eqb-true b i e))
+        (subst (λ (x : ℕ). x ≤ n) (sym (get_or-set_same l i v 0 (ltb-true i (length l) q))) h)
+    go true e false q = subst (λ (x : List ℕ). get_or x b 0 ≤ n) (sym (set_out l i v (ltb-false i (length l) q))) k
 
 -- how long an item is
 size_most : (k : ℕ) → 1 + body_length k ≤ 68
@@ -123,7 +113,7 @@ one_or_none b k =
     by_cond (λ (n : ℕ). n ≤ 1) b _ _ (λ _. by_cond (λ (n : ℕ). n ≤ 1) (eqb k 0x02) _ _ (λ _. omega arith) (λ _. omega arith))
     (λ _. omega arith)
 
-module _ {s image : List ℕ} {last : List (Option ℕ)} {places : List ℕ} {w : Walk} (k : Seen s image last places w) where
+module _ {s image last places : List ℕ} {w : Walk} (k : Seen s image last places w) where
   -- ---- how it ends
 
   stops : (t : Stop) → read_on s w.place w.number w.ended ≡ record { items = []; stop = t } → (reading s).stop ≡ t
@@ -224,19 +214,16 @@ module _ {s image : List ℕ} {last : List (Option ℕ)} {places : List ℕ} {w 
     -- the table behind it
     table_next : length (last_after s w.place last) ≡ 1024
     table_next =
-        by_cond (λ (l : List (Option ℕ)). length l ≡ 1024) (eqb (get_or s w.place 0) 0x02) _ _
-        (λ _. length-set last _ (Some (w.place + 4)) ∙ k.table) (λ _. k.table)
+        by_cond (λ (l : List ℕ). length l ≡ 1024) (eqb (get_or s w.place 0) 0x02) _ _
+        (λ _. length-set last _ (w.place + 4) ∙ k.table) (λ _. k.table)
 
-    further : (b : ℕ) → Before (get_or last b None) (w.place + size_of t)
-    further b = before_more (get_or last b None) w.place (w.place + size_of t) (k.before b) (omega arith)
-
-    before_next : (b : ℕ) → Before (get_or (last_after s w.place last) b None) (w.place + size_of t)
+    before_next : (b : ℕ) → get_or (last_after s w.place last) b 0 ≤ w.place + size_of t
     before_next b =
-        by_cond (λ (l : List (Option ℕ)). Before (get_or l b None) (w.place + size_of t)) (eqb (get_or s w.place 0) 0x02) _ _
+        by_cond (λ (l : List ℕ). get_or l b 0 ≤ w.place + size_of t) (eqb (get_or s w.place 0) 0x02) _ _
         (λ (e : eqb (get_or s w.place 0) 0x02 ≡ true).
         let size : size_of t ≡ 68 = ap (λ (x : ℕ). 1 + body_length x) (kind_at s w.place ∙ eqb-true (get_or s w.place 0) 0x02 e) in
-        set_below last _ (w.place + 4) b (w.place + size_of t) (omega (arith, size)) (further b))
-        (λ _. further b)
+        set_below last _ (w.place + 4) b (w.place + size_of t) (omega (arith, size)) (omega (arith, k.before b)))
+        (λ _. omega (arith, k.before b))
 
     -- what is kept of the items, this one among them
     kept_next : kept_items (k.items ++ items_at t) image
@@ -287,10 +274,25 @@ module _ {s image : List ℕ} {last : List (Option ℕ)} {places : List ℕ} {w 
           byted = λ _. all-bytes;
         }
 
-    pub seen_next : (r : Bool) (last' : List (Option ℕ)) (w' : Walk) → r ≡ keeps_at s w.place image last → last' ≡ last_after s w.place last
+    seen_next : (r : Bool) (last' : List ℕ) (w' : Walk) → r ≡ keeps_at s w.place image last → last' ≡ last_after s w.place last
         → w' ≡ next_walk w (get_or s w.place 0) r → Seen s image last' (set places w.dropped w.place) w'
     seen_next r last' w' p q e =
         let step : w' ≡ next_walk w (kind_of t) turn.keeps =
         e ∙ ap₂ (λ (x : ℕ) (b : Bool). next_walk w x b) (sym (kind_at s w.place)) (p ∙ turn.said) in
-        subst (λ (l : List (Option ℕ)). Seen s image l (set places w.dropped w.place) w') (sym q)
+        subst (λ (l : List ℕ). Seen s image l (set places w.dropped w.place) w') (sym q)
         (subst (Seen s image (last_after s w.place last) (set places w.dropped w.place)) (sym step) seen_turned)
+
+    -- behind a Block whose cells stand already, or not
+    pub seen_next_block : (r : Bool) (last' : List ℕ) (w' : Walk) → eqb (get_or s w.place 0) 0x02 ≡ true
+        → not r ≡ differs_at s w.place image last → last' ≡ remembered_at s w.place last
+        → w' ≡ next_walk w (get_or s w.place 0) (not r) → Seen s image last' (set places w.dropped w.place) w'
+    seen_next_block r last' w' b p q e =
+        seen_next (not r) last' w' (p ∙ sym (cond_true (eqb (get_or s w.place 0) 0x02) (differs_at s w.place image last) true b))
+        (q ∙ sym (cond_true (eqb (get_or s w.place 0) 0x02) (remembered_at s w.place last) last b)) e
+
+    -- behind another item
+    pub seen_next_other : (w' : Walk) → eqb (get_or s w.place 0) 0x02 ≡ false → w' ≡ next_walk w (get_or s w.place 0) true
+        → Seen s image last (set places w.dropped w.place) w'
+    seen_next_other w' b e =
+        seen_next true last w' (sym (cond_false (eqb (get_or s w.place 0) 0x02) (differs_at s w.place image last) true b))
+        (sym (cond_false (eqb (get_or s w.place 0) 0x02) (remembered_at s w.place last) last b)) e

@@ -5,7 +5,6 @@ use mathlib.Core.Path.{◌≡◌, ◌∙◌, refl, sym, ap, ap₂, subst}
 use mathlib.Core.Bool.{Bool, true, false, not, cond, true≢false}
 use mathlib.Core.List.{List, [], ◌∷◌, ◌++◌, append-nil}
 use mathlib.Core.Logic.{⊎_elim}
-use Rattle.std.proofs.Common.{Option, None, IfSome}
 use Prim.Native.Nat.{ℕ, ◌+◌, ◌/◌, ◌%◌, ◌≤◌, ◌<◌}
 use native.Mathlib.Omega.{arith}
 use lib.Dec.{eqb}
@@ -42,7 +41,7 @@ written s number ended kept =
     cond (eqb number 1) [] (opened (get_or s 1 0) (get_or s 2 0) kept ++ cond ended (0x0F ∷ []) [])
 
 -- what is known of an item at a place, over the FLASH f that the items before it leave
-pub record Turned (s image : List ℕ) (last : List (Option ℕ)) (f : List ℕ) (place number : ℕ) : Type 0 where
+pub record Turned (s image last f : List ℕ) (place number : ℕ) : Type 0 where
   pub keeps : Bool
   pub said : keeps_at s place image last ≡ keeps
   pub size : keeps ≡ false → size_of (drop place s) ≡ 68
@@ -75,7 +74,7 @@ item_printed n t bytes whole =
     ∙ take_at (kind_of t ∷ (address_bytes (address_of t) ++ part t 4 n)) (drop (4 + n) t) (4 + n)
     (omega (arith, part_length t 4 n whole))
 
-module _ (s image : List ℕ) (last : List (Option ℕ)) (f : List ℕ) (place number : ℕ) (ended : Bool) (at : AtItem s place number ended) (some : 1 ≤ number) where
+module _ (s image last f : List ℕ) (place number : ℕ) (ended : Bool) (at : AtItem s place number ended) (some : 1 ≤ number) where
   abbrev t : List ℕ
   t = drop place s
 
@@ -137,7 +136,7 @@ module _ (s image : List ℕ) (last : List (Option ℕ)) (f : List ℕ) (place n
           cond_false (eqb (get_or s place 0) 0x02) 1 0 else_here
           ∙ sym (ap (λ (js : List Item). block_count (kept_items js f)) items ∙ ap block_count kept-all ∙ no_blocks);
       shows =
-          subst (λ (l : List (Option ℕ)). Shows s image l (left_by_all (items_at t) f))
+          subst (λ (l : List ℕ). Shows s image l (left_by_all (items_at t) f))
           (sym (cond_false (eqb (get_or s place 0) 0x02) (remembered_at s place last) last else_here))
           (subst (Shows s image last) (sym (ap (λ (js : List Item). left_by_all js f) items ∙ left)) shows);
       bytes = λ kept h.
@@ -227,7 +226,7 @@ module _ (s image : List ℕ) (last : List (Option ℕ)) (f : List ℕ) (place n
       kept_said =
           cond_true (eqb (get_or s place 0) 0x02) (differs_at s place image last) true here
           ∙ ap not
-          (ap (same (standing s image a (get_or last (a / 64) None))) cells ∙ shows_stands s image last f shows a (multiple a legal) within d)
+          (ap (same (standing s image a (get_or last (a / 64) 0))) cells ∙ shows_stands s image last f shows a (multiple a legal) within d)
 
       one_kept : kept_items (items_at t) f ≡ cond (stands i f) [] (i ∷ [])
       one_kept = ap (λ (js : List Item). kept_items js f) (rw k) ∙ kept_one i f
@@ -255,13 +254,13 @@ module _ (s image : List ℕ) (last : List (Option ℕ)) (f : List ℕ) (place n
             ∙ counted (stands i f)
             ∙ ap block_count (sym one_kept);
         shows =
-            subst (λ (l : List (Option ℕ)). Shows s image l (left_by_all (items_at t) f))
+            subst (λ (l : List ℕ). Shows s image l (left_by_all (items_at t) f))
             (sym (cond_true (eqb (get_or s place 0) 0x02) (remembered_at s place last) last here))
             (subst (Shows s image (remembered_at s place last))
             (ap (λ (x : List ℕ). left_by (block a x) f) cells
             ∙ sym (left_one i f)
             ∙ ap (λ (js : List Item). left_by_all js f) (sym (let e : items_at t ≡ i ∷ [] = rw k in e)))
-            (shows_block s image last f shows a (multiple a legal) within (place + 4) (omega (arith, inside)) blocks));
+            (shows_block s image last f shows a (multiple a legal) within (place + 4) (λ e. omega (arith, e)) (omega (arith, inside)) blocks));
         bytes = λ kept h.
             let later = other_first k (λ e. omega (arith, e)) in
             ap₂ (λ (x : List ℕ) (n : ℕ). x ++ cond (not (stands i f)) (part s place n) []) (before later kept) (size_by 0x02 k)
@@ -272,7 +271,7 @@ module _ (s image : List ℕ) (last : List (Option ℕ)) (f : List ℕ) (place n
       }
 
       -- and what the code asks of it
-      pub at_block : length image ≡ flash_cells → place + 4 < 4294967296 → ((b : ℕ) → IfSome (get_or last b None) (λ from. from ≤ place)) → AtBlock s place image last
+      pub at_block : length image ≡ flash_cells → place + 4 < 4294967296 → ((b : ℕ) → get_or last b 0 ≤ place) → AtBlock s place image last
       at_block l small h = record {
         inside = inside;
         small = small;

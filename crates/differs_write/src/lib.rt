@@ -28,7 +28,7 @@ pub fn differences(recipe: &[u8], image: &[u8], output: &mut [u8]) -> Result<Kep
             place: 0,
         });
     }
-    let mut last = [None; 1024];
+    let mut last = [0u32; 1024];
     // A count stands beside the places: there is no heap, and an array has its length.
     let mut places = [0u32; 2048];
     let walk = walk::look_over(recipe, image, &mut last, &mut places)?;

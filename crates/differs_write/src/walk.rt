@@ -1,8 +1,7 @@
 // The walk over a recipe's items: each is looked at for a fault, and whether it is kept.
-ghost use Rattle.std.specs.Prelude.{◌≡◌, ◌<◌, ◌≤◌, length, get_or, replicate, None};
+ghost use Rattle.std.specs.Prelude.{◌≡◌, ◌≤◌, length, eqb, replicate};
 ghost use Rattle.memory_address.specs.Places.{flash_cells};
-ghost use Rattle.differs_write.specs.Internal.Standing.{AtBlock};
-ghost use Rattle.differs_write.specs.Internal.Steps.{keeps_at, last_after, erases_of_kind, next_walk, Small, Found};
+ghost use Rattle.differs_write.specs.Internal.Steps.{erases_of_kind, next_walk, Small, Found};
 
 use recipe::{Fault, Kind, Refusal};
 
@@ -62,16 +61,11 @@ fn erases_of_kind(kind: u8) -> usize
     }
 }
 
-// Whether the item at a place is kept: all but a Block that stands already.
-fn keeps(recipe: &[u8], place: usize, image: &[u8], last: &mut [Option<u32>]) -> bool
-    requires { (place < length recipe.now) × (get_or recipe.now place 0 ≡ 0x02 → AtBlock recipe.now place image.now last.old) }
-    ensures { (result ≡ keeps_at recipe.now place image.now last.old)
-        × (last.new ≡ last_after recipe.now place last.old) }
+// Whether an item of a kind is a Block.
+fn is_block(kind: u8) -> bool
+    ensures { result ≡ eqb kind 0x02 }
 {
-    match Kind::of(recipe[place]) {
-        Some(Kind::Block) => !crate::block::turn(recipe, place, image, last),
-        Some(Kind::Open | Kind::Row | Kind::Leave) | None => true,
-    }
+    matches!(Kind::of(kind), Some(Kind::Block))
 }
 
 // Looks at every item: for a fault, and whether it is kept. It answers the walk at the end, and `places` gets the places of the items that
@@ -79,10 +73,10 @@ fn keeps(recipe: &[u8], place: usize, image: &[u8], last: &mut [Option<u32>]) ->
 pub fn look_over(
     recipe: &[u8],
     image: &[u8],
-    last: &mut [Option<u32>],
+    last: &mut [u32],
     places: &mut [u32],
 ) -> Result<Walk, Refusal>
-    requires { (length image.now ≡ flash_cells) × (last.old ≡ replicate 1024 None) × (length places.old ≡ 2048) }
+    requires { (length image.now ≡ flash_cells) × (last.old ≡ replicate 1024 0) × (length places.old ≡ 2048) }
     ensures { Found recipe.now image.now result places.new }
 {
     let mut w = START;
@@ -92,9 +86,13 @@ pub fn look_over(
         if let Err(fault) = recipe_fault::fault_at(recipe, place, w.number, w.ended) {
             return Err(Refusal { fault, place });
         }
-        let kept = keeps(recipe, place, image, last);
         places[w.dropped] = place as u32;
-        w = w.next(recipe[place], kept);
+        let kind = recipe[place];
+        w = if is_block(kind) {
+            w.next(kind, !crate::block::turn(recipe, place, image, last))
+        } else {
+            w.next(kind, true)
+        };
     }
     if !w.ended {
         return Err(Refusal {

@@ -1,5 +1,5 @@
 -- A step of the walk over a recipe, and what the walk finds.
-use Rattle.std.specs.Prelude.{ℕ, ◌+◌, ◌/◌, ◌≤◌, ◌<◌, ◌≡◌, Bool, true, cond, not, List, eqb, length, get_or, set, take, drop, Option, Some, None, Result, Ok, Err}
+use Rattle.std.specs.Prelude.{ℕ, ◌+◌, ◌/◌, ◌≤◌, ◌<◌, ◌≡◌, Bool, true, cond, not, List, eqb, length, get_or, set, take, drop, Result, Ok, Err}
 use Rattle.base.specs.Parts.{Bytes, part}
 use Rattle.memory_same.specs.Same.{same}
 use Rattle.recipe.specs.declared.Refusal.{Refusal}
@@ -15,20 +15,20 @@ use Rattle.differs_write.specs.Internal.Standing.{standing}
 use Rattle.differs_write.specs.Internal.Cutting.{cut_out, Upward}
 
 -- whether the Block at a place has other cells than stand there
-abbrev pub differs_at : List ℕ → ℕ → List ℕ → List (Option ℕ) → Bool
+abbrev pub differs_at : List ℕ → ℕ → List ℕ → List ℕ → Bool
 differs_at recipe place image last =
     let address : ℕ = address_of (drop place recipe) in
-    not (same (standing recipe image address (get_or last (address / 64) None)) (part recipe (place + 4) 64))
+    not (same (standing recipe image address (get_or last (address / 64) 0)) (part recipe (place + 4) 64))
 
 -- the table with the Block at a place as the last of its block
-abbrev pub remembered_at : List ℕ → ℕ → List (Option ℕ) → List (Option ℕ)
-remembered_at recipe place last = set last (address_of (drop place recipe) / 64) (Some (place + 4))
+abbrev pub remembered_at : List ℕ → ℕ → List ℕ → List ℕ
+remembered_at recipe place last = set last (address_of (drop place recipe) / 64) (place + 4)
 
 -- whether the item at a place is kept, and the table behind it
-abbrev pub keeps_at : List ℕ → ℕ → List ℕ → List (Option ℕ) → Bool
+abbrev pub keeps_at : List ℕ → ℕ → List ℕ → List ℕ → Bool
 keeps_at recipe place image last = cond (eqb (get_or recipe place 0) 0x02) (differs_at recipe place image last) true
 
-abbrev pub last_after : List ℕ → ℕ → List (Option ℕ) → List (Option ℕ)
+abbrev pub last_after : List ℕ → ℕ → List ℕ → List ℕ
 last_after recipe place last = cond (eqb (get_or recipe place 0) 0x02) (remembered_at recipe place last) last
 
 -- how many erases an item of a kind is
