@@ -274,7 +274,7 @@ module _ {s image last places : List ℕ} {w : Walk} (k : Seen s image last plac
           byted = λ _. all-bytes;
         }
 
-    seen_next : (r : Bool) (last' : List ℕ) (w' : Walk) → r ≡ keeps_at s w.place image last → last' ≡ last_after s w.place last
+    pub seen_next : (r : Bool) (last' : List ℕ) (w' : Walk) → r ≡ keeps_at s w.place image last → last' ≡ last_after s w.place last
         → w' ≡ next_walk w (get_or s w.place 0) r → Seen s image last' (set places w.dropped w.place) w'
     seen_next r last' w' p q e =
         let step : w' ≡ next_walk w (kind_of t) turn.keeps =

@@ -1,6 +1,6 @@
 -- Any two outcomes that a contract allows for one input are equal: the whole result.
 -- The contracts are the generated `Reads`: nothing is said of a body.
-use mathlib.Core.Path.{◌≡◌, ◌∙◌, sym}
+use mathlib.Core.Path.{◌≡◌, ◌∙◌, sym, subst}
 use contract.Lifetimes.{Lfts}
 use borrow.Fn.World.{ArgsD, ResD}
 use denote.Triple.Clauses.{AtExit}
@@ -21,3 +21,13 @@ pub telling_tight : (κs : Lfts 0) (a : ArgsD telling-signature κs) (r r' : Res
     (s s' : AtExit (ended_of 0 telling-kinds.ps telling-kinds.r) κs)
     → telling-reads.Post κs a r s → telling-reads.Post κs a r' s' → r ≡ r'
 telling_tight κs a r r' s s' p q = p ∙ sym q
+
+-- What is told of a call's answer, by way of its numbers: one result for one answer.
+pub answer_telling_tight : (κs : Lfts 0) (a : ArgsD in-numbers-signature κs) (n n' : ResD in-numbers-signature κs)
+    (s s' : AtExit (ended_of 0 in-numbers-kinds.ps in-numbers-kinds.r) κs) (r r' : ResD telling-signature κs)
+    (t t' : AtExit (ended_of 0 telling-kinds.ps telling-kinds.r) κs)
+    → in-numbers-reads.Post κs a n s → telling-reads.Post κs (n, tt) r t
+    → in-numbers-reads.Post κs a n' s' → telling-reads.Post κs (n', tt) r' t' → r ≡ r'
+answer_telling_tight κs a n n' s s' r r' t t' i p j q =
+    telling_tight κs (n, tt) r r' t t' p
+    (subst (λ x. telling-reads.Post κs (x, tt) r' t') (sym (in_numbers_tight κs a n n' s s' i j)) q)
